@@ -1,0 +1,5 @@
+pub mod Range
+pub mod Rounding
+pub mod Fraction
+pub mod Least
+pub mod Utilisation

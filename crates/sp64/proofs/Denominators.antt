@@ -1,0 +1,124 @@
+-- No unrounded rule holds for an empty reason: over the cells' ranges every denominator is above zero, and where layout and slenderness hold no
+-- difference is cut off at zero.
+-- Assumes nothing.
+use Prim.Native.Nat.{ℕ, _-_, _*_, _≤_, _<_}
+use native.Mathlib.Nat.{mul-pos}
+use native.Mathlib.Omega.{arith}
+use mathlib.Core.Path.{_≡_}
+use mathlib.Core.Bool.{true}
+use borrow.Author.Tests.{leb-true}
+use lib.Dec.{lit<, lit≤}
+use Rattle.rounding.specs.Range.{In}
+use Rattle.rounding.specs.Fraction.{Fraction, whole, _⊘_, _⊖_, _≼_, _≺_}
+use Rattle.rounding.proofs.Ranges.{in-lit, in-mul, in-wide}
+use Rattle.rounding.proofs.Near.{Near, near-pos}
+use Rattle.sp64.specs.declared.tables.Stress.{Stress}
+use Rattle.sp64.specs.declared.tables.Stress.the-variants.{Bending, Compression, Tension, Shear}
+use Rattle.sp64.specs.declared.strength.Material.{Material}
+use Rattle.sp64.specs.declared.joint.Joint.{Joint}
+use Rattle.sp64.specs.Strength.{MaterialRanges, exactStrength}
+use Rattle.sp64.specs.Slenderness.{Slenderness}
+use Rattle.sp64.specs.Joint.{JointRanges, Layout, coreCrushing, sideCrushing, dowelBending, exactTerm}
+use Rattle.sp64.specs.Capacity.{Section, exactNetTensionCapacity, exactSidePieceCapacity, exactShearCapacity, exactNR, exactMR}
+use Rattle.sp64.specs.Buckling.{stocky, exactSlenderPhi, exactBucklingPhi, exactBucklingCapacity, exactEulerCapacity}
+use Rattle.sp64.specs.Combined.{exactAxialShare, exactSecondOrderMoment}
+use Rattle.sp64.proofs.StrengthLaws.{undivided-in, strength-near}
+use Rattle.sp64.proofs.PhiLaws.{slender-near, phi-near}
+use Rattle.sp64.proofs.CapacityLaws.{net-height-in, tension-near, whole-tension-near, compression-near, bending-near, shear-near, buckling-near}
+use Rattle.sp64.proofs.Checks.{slenderness-most, phi-loss}
+
+-- a value above zero, with a denominator above zero: it may stand in a numerator and in a denominator
+pub record Proper (x : Fraction) : Type 0 where
+  pub real : 0 < x .den
+  pub some : 0 < x .num
+
+proper : {m f g r : ℕ} {x : Fraction} → 0 < m → Near m f g r x → Proper x
+proper pos near = record { real = near .real; some = near-pos pos near }
+
+-- the height that the dowels leave is not cut off where the layout holds
+pub net-height-kept : {h : ℕ} {j : Joint} → In 60 2500 h → JointRanges j → Layout h j → j .across * j .diameter < h
+net-height-kept height jr layout = omega (arith, net-height-in height jr layout .low)
+
+-- the first form of φ is not cut off up to the turn at 70
+pub stocky-phi-kept : (L s : ℕ) → stocky L s ≡ true → whole (960 * (L * L)) ⊘ whole (s * s) ≼ whole 1000000
+stocky-phi-kept L s e = let h : 12 * (L * L) ≤ 4900 * (s * s) = leb-true _ _ e in omega arith
+
+-- φ and φ', where the slenderness is within a limit of Table 16
+module _ {limit L s : ℕ} (length : In 100 20000 L) (side : In 20 2500 s) (most : limit ≤ 200) (slender : Slenderness limit L s) where
+  pub phi-proper : Proper (exactBucklingPhi L s)
+  phi-proper = proper (lit< tt) (phi-near length side (slenderness-most limit L s most slender))
+
+  pub slender-phi-proper : Proper (exactSlenderPhi L s)
+  slender-phi-proper = proper (lit< tt) (slender-near length side (slenderness-most limit L s most slender))
+
+-- a dowel's terms
+module _ {b : ℕ} {j : Joint} {mat : Material} (width : In 20 300 b) (jr : JointRanges j) (known : MaterialRanges mat) where
+  term-proper : {lo hi term : ℕ} → 0 < lo → In lo hi term → Proper (exactTerm term mat)
+  term-proper {lo} pos i = record { real = lit< tt; some = omega (arith, undivided-in known i .low, pos) }
+
+  pub core-crushing-proper : Proper (exactTerm (coreCrushing b j) mat)
+  core-crushing-proper = term-proper (lit< tt) (in-mul (in-mul (jr .kc) width) (jr .diameter))
+
+  pub side-crushing-proper : Proper (exactTerm (sideCrushing j) mat)
+  side-crushing-proper = term-proper (lit< tt) (in-mul (in-mul (jr .ka) (jr .side)) (jr .diameter))
+
+  pub dowel-bending-proper : Proper (exactTerm (dowelBending j) mat)
+  dowel-bending-proper =
+      let d2 = in-mul (jr .diameter) (jr .diameter) in
+      let i : In 3600 8000000 (dowelBending j) = omega (arith, in-mul (jr .kb) d2, in-mul (jr .km) d2) in
+      term-proper (lit< tt) i
+
+module _ {mat : Material} (known : MaterialRanges mat) where
+  pub strength-proper : (stress : Stress) → Proper (exactStrength stress mat)
+  strength-proper Bending = proper (lit< tt) (strength-near known Bending)
+  strength-proper Compression = proper (lit< tt) (strength-near known Compression)
+  strength-proper Tension = proper (lit< tt) (strength-near known Tension)
+  strength-proper Shear = proper (lit< tt) (strength-near known Shear)
+
+  module _ {b h : ℕ} (section : Section b h) where
+    pub tension-proper : Proper (exactNR Tension b h mat)
+    tension-proper = proper (lit< tt) (whole-tension-near known section)
+
+    module _ {j : Joint} (jr : JointRanges j) (layout : Layout h j) where
+      pub net-tension-proper : Proper (exactNetTensionCapacity b h j (exactStrength Tension mat))
+      net-tension-proper =
+          proper (lit< tt)
+          (tension-near known (in-wide 20 600 (lit≤ tt) (lit≤ tt) (section .width)) (net-height-in (section .height) jr layout))
+
+      pub side-piece-proper : Proper (exactSidePieceCapacity h j (exactStrength Tension mat))
+      side-piece-proper =
+          proper (lit< tt)
+          (tension-near known (in-mul (in-lit 2) (jr .side)) (net-height-in (section .height) jr layout))
+
+    pub compression-proper : Proper (exactNR Compression b h mat)
+    compression-proper = proper (lit< tt) (compression-near known section)
+
+    pub bending-proper : Proper (exactMR b h mat)
+    bending-proper = proper (lit< tt) (bending-near known section)
+
+    pub shear-proper : Proper (exactShearCapacity b h (exactStrength Shear mat))
+    shear-proper = proper (lit< tt) (shear-near known section)
+
+    -- NR × φ of checks 9 and 10, and NR × φ' of check 11
+    module _ {limit L s : ℕ} (length : In 100 20000 L) (side : In 20 2500 s) (most : limit ≤ 200) (slender : Slenderness limit L s) where
+      pub buckling-proper : Proper (exactBucklingCapacity (exactNR Compression b h mat) (exactBucklingPhi L s))
+      buckling-proper =
+          proper (lit< tt)
+          (buckling-near known section phi-loss (phi-near length side (slenderness-most limit L s most slender)))
+
+      pub euler-proper : Proper (exactEulerCapacity (exactNR Compression b h mat) L s)
+      euler-proper =
+          proper (lit< tt)
+          (buckling-near known section phi-loss (slender-near length side (slenderness-most limit L s most slender)))
+
+-- p and Md: with a capacity C as above p has a denominator, and where p is below one, 1,000,000 − p is not cut off, so Md has one
+module _ (N M C : Fraction) (real-N : 0 < N .den) (real-M : 0 < M .den) (capacity : Proper C) where
+  pub share-real : 0 < exactAxialShare N C .den
+  share-real = omega (arith, mul-pos real-N (capacity .some))
+
+  module _ (below : exactAxialShare N C ≺ whole 1000000) where
+    pub remainder-proper : Proper (whole 1000000 ⊖ exactAxialShare N C)
+    remainder-proper = record { real = omega (arith, share-real); some = omega arith }
+
+    pub moment-real : 0 < exactSecondOrderMoment M (exactAxialShare N C) .den
+    moment-real = mul-pos (omega (arith, real-M)) (remainder-proper .some)

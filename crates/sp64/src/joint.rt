@@ -1,0 +1,107 @@
+// The dowel joint: layout, dowel count, joint length.
+use crate::strength::Material;
+use crate::strength::undivided_product;
+ghost use Prim.Native.Nat.{min};
+ghost use mathlib.Core.Path.{_≡_};
+ghost use Rattle.rounding.specs.Range.{In, Value};
+ghost use Rattle.sp64.specs.Strength.{MaterialRanges};
+ghost use Rattle.sp64.specs.Joint.{JointRanges, layoutHolds, coreCrushing, sideCrushing, dowelBending, leastTerm, dowelCapacity, dowelCount, jointCount, jointLengthHolds};
+
+// Cells 14 to 22. Lengths in mm, coefficients of Table 18 in hundredths of N/mm².
+pub struct Joint {
+    // a, the thickness of a side piece
+    pub side: u64,
+    // d
+    pub diameter: u64,
+    // r, dowels across the height
+    pub across: u64,
+    // the joint length available
+    pub available: u64,
+    // crushing of the core and of a side piece
+    pub kc: u64,
+    pub ka: u64,
+    // bending of a dowel: by its diameter, by the side piece, and the most that is taken
+    pub kb: u64,
+    pub ke: u64,
+    pub km: u64,
+}
+
+// Check 1.
+pub fn layout_holds(h: u64, j: Joint) -> bool
+    requires { ⌜ In 60 2500 h × JointRanges j ⌝ }
+    ensures { λ r. ⌜ r ≡ layoutHolds h j ⌝ }
+{
+    (7 * j.across + 5) * j.diameter <= 2 * h
+}
+
+fn smaller(x: u64, y: u64) -> u64
+    ensures { λ r. ⌜ r ≡ min x y ⌝ }
+{
+    if x < y { x } else { y }
+}
+
+// The terms of g, in hundredths of N.
+fn core_crushing(b: u64, j: Joint) -> u64
+    requires { ⌜ In 20 300 b × JointRanges j ⌝ }
+    ensures { λ r. ⌜ Value 12000 60000000 (coreCrushing b j) r ⌝ }
+{
+    j.kc * b * j.diameter
+}
+
+fn side_crushing(j: Joint) -> u64
+    requires { ⌜ JointRanges j ⌝ }
+    ensures { λ r. ⌜ Value 6000 60000000 (sideCrushing j) r ⌝ }
+{
+    j.ka * j.side * j.diameter
+}
+
+fn dowel_bending(j: Joint) -> u64
+    requires { ⌜ JointRanges j ⌝ }
+    ensures { λ r. ⌜ Value 3600 8000000 (dowelBending j) r ⌝ }
+{
+    let d2 = j.diameter * j.diameter;
+    let a2 = j.side * j.side;
+    smaller(j.kb * d2 + j.ke * a2, j.km * d2)
+}
+
+// g
+fn least_term(b: u64, j: Joint) -> u64
+    requires { ⌜ In 20 300 b × JointRanges j ⌝ }
+    ensures { λ r. ⌜ Value 3600 8000000 (leastTerm b j) r ⌝ }
+{
+    smaller(
+        core_crushing(b, j),
+        smaller(side_crushing(j), dowel_bending(j)),
+    )
+}
+
+// T, in mN.
+fn dowel_capacity(b: u64, j: Joint, m: Material) -> u64
+    requires { ⌜ In 20 300 b × JointRanges j × MaterialRanges m ⌝ }
+    ensures { λ r. ⌜ Value 7155 88000000 (dowelCapacity b j m) r ⌝ }
+{
+    undivided_product(least_term(b, j), m) / 1_000_000
+}
+
+fn dowel_count(n: u64, t: u64) -> u64
+    requires { ⌜ In 1 100000000 n × In 7155 88000000 t ⌝ }
+    ensures { λ r. ⌜ Value 1 6988121 (dowelCount n t) r ⌝ }
+{
+    rounding::round_up(1000 * n, 2 * t)
+}
+
+// The dowels that the axial force n needs.
+pub fn joint_count(n: u64, b: u64, j: Joint, m: Material) -> u64
+    requires { ⌜ In 1 100000000 n × In 20 300 b × JointRanges j × MaterialRanges m ⌝ }
+    ensures { λ r. ⌜ Value 1 6988121 (jointCount n b j m) r ⌝ }
+{
+    dowel_count(n, dowel_capacity(b, j, m))
+}
+
+// Check 4.
+pub fn joint_length_holds(j: Joint, count: u64) -> bool
+    requires { ⌜ JointRanges j × In 1 6988121 count ⌝ }
+    ensures { λ r. ⌜ r ≡ jointLengthHolds j count ⌝ }
+{
+    7 * j.diameter * (rounding::round_up(count, j.across) + 1) <= j.available
+}
