@@ -8,7 +8,7 @@ pub record In (lo hi n : ℕ) : Type 0 where
   pub low : lo ≤ n
   pub high : n ≤ hi
 
--- the result r is `is`, and lies from lo to hi
-pub record Value (lo hi is r : ℕ) : Type 0 where
+-- the result r is `is`, and lies in the range
+pub record Value (Range : ℕ → Type 0) (is r : ℕ) : Type 0 where
   pub exact : r ≡ is
-  pub range : In lo hi r
+  pub range : Range r

@@ -1,7 +1,16 @@
 -- The utilisation of a force against a capacity, in millionths.
 -- Assumes nothing.
 use Prim.Native.Nat.{ℕ, _*_, min}
+use Rattle.rounding.specs.Range.{In}
 use Rattle.rounding.specs.Rounding.{up}
+
+-- the capacities that a utilisation is taken against, in N or N·mm
+abbrev pub InCapacity : ℕ → Type 0
+InCapacity = In 1 1000000000000
+
+-- a utilisation
+abbrev pub InUtilisation : ℕ → Type 0
+InUtilisation = In 0 9999999
 
 -- any utilisation above 9,999,999 is given as 9,999,999
 abbrev pub capped : ℕ → ℕ

@@ -1,9 +1,9 @@
 // Division rounded up, and the utilisation of a force against a capacity.
 ghost use mathlib.Core.Path.{_≡_};
 ghost use Prim.Native.Nat.{_+_, _^_, _≤_, _<_};
-ghost use Rattle.rounding.specs.Range.{In, Value};
+ghost use Rattle.rounding.specs.Range.{Value};
 ghost use Rattle.rounding.specs.Rounding.{up};
-ghost use Rattle.rounding.specs.Utilisation.{utilisation};
+ghost use Rattle.rounding.specs.Utilisation.{InCapacity, InUtilisation, utilisation};
 
 // n / d, rounded up.
 pub fn round_up(n: u64, d: u64) -> u64
@@ -15,8 +15,8 @@ pub fn round_up(n: u64, d: u64) -> u64
 
 // The utilisation of a force against a capacity, in millionths. 1,000,000 × force need not fit 64 bits, so the cap is tested before the product.
 pub fn utilisation_of(force: u64, capacity: u64) -> u64
-    requires { ⌜ In 1 1000000000000 capacity ⌝ }
-    ensures { λ r. ⌜ Value 0 9999999 (utilisation force capacity) r ⌝ }
+    requires { ⌜ InCapacity capacity ⌝ }
+    ensures { λ r. ⌜ Value InUtilisation (utilisation force capacity) r ⌝ }
 {
     if 9_999_999 * capacity / 1_000_000 < force {
         9_999_999

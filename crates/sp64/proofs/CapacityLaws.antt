@@ -11,6 +11,7 @@ use Rattle.rounding.proofs.Near.{Near, near-in, near-mul, near-down, near-wide}
 use Rattle.sp64.specs.declared.tables.Stress.the-variants.{Bending, Compression, Tension, Shear}
 use Rattle.sp64.specs.declared.strength.Material.{Material}
 use Rattle.sp64.specs.declared.joint.Joint.{Joint}
+use Rattle.sp64.specs.Ranges.{InHeight}
 use Rattle.sp64.specs.Strength.{MaterialRanges, designStrength, exactStrength}
 use Rattle.sp64.specs.Joint.{JointRanges, Layout}
 use Rattle.sp64.specs.Capacity.{Section, netHeight, shearCapacity, exactShearCapacity, NR, exactNR, MR, exactMR}
@@ -18,7 +19,7 @@ use Rattle.sp64.specs.Buckling.{bucklingCapacity, exactBucklingCapacity}
 use Rattle.sp64.proofs.StrengthLaws.{strength-near}
 
 -- the height that the dowels leave, where the layout holds
-pub net-height-in : {h : ℕ} {j : Joint} → In 60 2500 h → JointRanges j → Layout h j → In 30 2500 (netHeight h j)
+pub net-height-in : {h : ℕ} {j : Joint} → InHeight h → JointRanges j → Layout h j → In 30 2500 (netHeight h j)
 net-height-in height jr layout = omega (arith, mul-le-mul (jr .across .low) (jr .diameter .low))
 
 -- φ is at least m, and rounding takes at most the part g / f off it; then NR × φ, of at least 6439 × m millionths, loses at most G hundred-thousandths

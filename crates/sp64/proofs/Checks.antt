@@ -6,7 +6,6 @@ use Prim.Native.Nat.{ℕ, _*_, _≤_, _<_}
 use native.Mathlib.Nat.{mul-le-mul, mul-le-mul-right, le-trans}
 use native.Mathlib.Omega.{arith}
 use lib.Dec.{lit<, lit≤}
-use Rattle.rounding.specs.Range.{In}
 use Rattle.rounding.specs.Fraction.{Fraction, RoundsUpTo}
 use Rattle.rounding.proofs.Ranges.{in-lit, in-mul, in-wide}
 use Rattle.rounding.proofs.Near.{Near, near-wide}
@@ -14,6 +13,7 @@ use Rattle.rounding.proofs.Soundness.{SoundAgainst, sound}
 use Rattle.sp64.specs.declared.tables.Stress.the-variants.{Compression, Tension, Shear}
 use Rattle.sp64.specs.declared.strength.Material.{Material}
 use Rattle.sp64.specs.declared.joint.Joint.{Joint}
+use Rattle.sp64.specs.Ranges.{InLimit, InLength, InSide}
 use Rattle.sp64.specs.Strength.{MaterialRanges, designStrength, exactStrength}
 use Rattle.sp64.specs.Slenderness.{Slenderness}
 use Rattle.sp64.specs.Joint.{JointRanges, Layout}
@@ -24,8 +24,8 @@ use Rattle.sp64.proofs.CapacityLaws.{net-height-in, tension-near, whole
 use Rattle.sp64.proofs.CombinedLaws.{Losses, CompressionBendingSound, compression-bending-from, TensionBendingSound, tension-bending-from}
 
 -- within any limit of Table 16 the slenderness is at most 200
-pub slenderness-most : (limit L s : ℕ) → limit ≤ 200 → Slenderness limit L s → Slenderness 200 L s
-slenderness-most limit L s most h = le-trans h (mul-le-mul-right (s * s) (mul-le-mul most most))
+pub slenderness-most : (limit L s : ℕ) → InLimit limit → Slenderness limit L s → Slenderness 200 L s
+slenderness-most limit L s most h = le-trans h (mul-le-mul-right (s * s) (mul-le-mul (most .high) (most .high)))
 
 -- what rounding takes off NR × φ and NR × φ' with the φ of specs/Buckling
 pub phi-loss : PhiLoss 75000 75000 75001 100244
@@ -68,7 +68,7 @@ module _ {mat : Material} (known : MaterialRanges mat) {b h : ℕ} (section : Se
         sound (loss .low) some up (near-wide 1000 k₀ (lit< tt) (omega arith) (buckling-near known section loss phi))
 
     -- checks 9 and 10: L, s are Lh, h and Lb, b
-    pub buckling-sound : {limit L s : ℕ} → In 100 20000 L → In 20 2500 s → limit ≤ 200 → Slenderness limit L s → SoundAgainst 1003 force N (bucklingCapacity (NR Compression b h mat) (bucklingPhi L s)) (exactBucklingCapacity (exactNR Compression b h mat) (exactBucklingPhi L s))
+    pub buckling-sound : {limit L s : ℕ} → InLength L → InSide s → InLimit limit → Slenderness limit L s → SoundAgainst 1003 force N (bucklingCapacity (NR Compression b h mat) (bucklingPhi L s)) (exactBucklingCapacity (exactNR Compression b h mat) (exactBucklingPhi L s))
     buckling-sound {limit} {L} {s} length side most slender =
         buckling-sound-for 1003 phi-loss (lit< tt) (lit≤ tt) (phi-near length side (slenderness-most limit L s most slender))
 
@@ -87,7 +87,7 @@ module _ {mat : Material} (known : MaterialRanges mat) {b h : ℕ} (section : Se
         pos-M
 
     -- check 11, kind 4
-    pub compression-bending-sound : {limit L : ℕ} → In 100 20000 L → limit ≤ 200 → Slenderness limit L h → CompressionBendingSound 1003 N M (NR Compression b h mat) (eulerCapacity (NR Compression b h mat) L h) (MR b h mat) (exactNR Compression b h mat) (exactEulerCapacity (exactNR Compression b h mat) L h) (exactMR b h mat)
+    pub compression-bending-sound : {limit L : ℕ} → InLength L → InLimit limit → Slenderness limit L h → CompressionBendingSound 1003 N M (NR Compression b h mat) (eulerCapacity (NR Compression b h mat) L h) (MR b h mat) (exactNR Compression b h mat) (exactEulerCapacity (exactNR Compression b h mat) L h) (exactMR b h mat)
     compression-bending-sound {limit} {L} length most slender =
         compression-bending-sound-for 1003 phi-loss (omega arith)
         (slender-near length (in-wide 20 2500 (lit≤ tt) (lit≤ tt) (section .height)) (slenderness-most limit L h most slender))

@@ -16,6 +16,7 @@ use Rattle.sp64.specs.declared.tables.Stress.{Stress}
 use Rattle.sp64.specs.declared.tables.Stress.the-variants.{Bending, Compression, Tension, Shear}
 use Rattle.sp64.specs.declared.strength.Material.{Material}
 use Rattle.sp64.specs.declared.joint.Joint.{Joint}
+use Rattle.sp64.specs.Ranges.{InLimit, InHeight, InLength, InSide, InUndivided, InWidth}
 use Rattle.sp64.specs.Strength.{MaterialRanges, exactStrength}
 use Rattle.sp64.specs.Slenderness.{Slenderness}
 use Rattle.sp64.specs.Joint.{JointRanges, Layout, coreCrushing, sideCrushing, dowelBending, exactTerm}
@@ -36,7 +37,7 @@ proper : {m f g r : ℕ} {x : Fraction} → 0 < m → Near m f g r x → Proper 
 proper pos near = record { real = near .real; some = near-pos pos near }
 
 -- the height that the dowels leave is not cut off where the layout holds
-pub net-height-kept : {h : ℕ} {j : Joint} → In 60 2500 h → JointRanges j → Layout h j → j .across * j .diameter < h
+pub net-height-kept : {h : ℕ} {j : Joint} → InHeight h → JointRanges j → Layout h j → j .across * j .diameter < h
 net-height-kept height jr layout = omega (arith, net-height-in height jr layout .low)
 
 -- the first form of φ is not cut off up to the turn at 70
@@ -44,7 +45,7 @@ pub stocky-phi-kept : (L s : ℕ) → stocky L s ≡ true → whole (960 * (L * 
 stocky-phi-kept L s e = let h : 12 * (L * L) ≤ 4900 * (s * s) = leb-true _ _ e in omega arith
 
 -- φ and φ', where the slenderness is within a limit of Table 16
-module _ {limit L s : ℕ} (length : In 100 20000 L) (side : In 20 2500 s) (most : limit ≤ 200) (slender : Slenderness limit L s) where
+module _ {limit L s : ℕ} (length : InLength L) (side : InSide s) (most : InLimit limit) (slender : Slenderness limit L s) where
   pub phi-proper : Proper (exactBucklingPhi L s)
   phi-proper = proper (lit< tt) (phi-near length side (slenderness-most limit L s most slender))
 
@@ -52,7 +53,7 @@ module _ {limit L s : ℕ} (length : In 100 20000 L) (side : In 20 2500 s) (most
   slender-phi-proper = proper (lit< tt) (slender-near length side (slenderness-most limit L s most slender))
 
 -- a dowel's terms
-module _ {b : ℕ} {j : Joint} {mat : Material} (width : In 20 300 b) (jr : JointRanges j) (known : MaterialRanges mat) where
+module _ {b : ℕ} {j : Joint} {mat : Material} (width : InWidth b) (jr : JointRanges j) (known : MaterialRanges mat) where
   term-proper : {lo hi term : ℕ} → 0 < lo → In lo hi term → Proper (exactTerm term mat)
   term-proper {lo} pos i = record { real = lit< tt; some = omega (arith, undivided-in known i .low, pos) }
 
@@ -65,7 +66,7 @@ module _ {b : ℕ} {j : Joint} {mat : Material} (width : In 20 300 b) (jr : Join
   pub dowel-bending-proper : Proper (exactTerm (dowelBending j) mat)
   dowel-bending-proper =
       let d2 = in-mul (jr .diameter) (jr .diameter) in
-      let i : In 3600 8000000 (dowelBending j) = omega (arith, in-mul (jr .kb) d2, in-mul (jr .km) d2) in
+      let i : InUndivided (dowelBending j) = omega (arith, in-mul (jr .kb) d2, in-mul (jr .km) d2) in
       term-proper (lit< tt) i
 
 module _ {mat : Material} (known : MaterialRanges mat) where
@@ -100,7 +101,7 @@ module _ {mat : Material} (known : MaterialRanges mat) where
     shear-proper = proper (lit< tt) (shear-near known section)
 
     -- NR × φ of checks 9 and 10, and NR × φ' of check 11
-    module _ {limit L s : ℕ} (length : In 100 20000 L) (side : In 20 2500 s) (most : limit ≤ 200) (slender : Slenderness limit L s) where
+    module _ {limit L s : ℕ} (length : InLength L) (side : InSide s) (most : InLimit limit) (slender : Slenderness limit L s) where
       pub buckling-proper : Proper (exactBucklingCapacity (exactNR Compression b h mat) (exactBucklingPhi L s))
       buckling-proper =
           proper (lit< tt)

@@ -8,7 +8,6 @@ use mathlib.Core.Logic.{_↔_}
 use mathlib.Core.Bool.{Bool, true, false}
 use borrow.Author.Tests.{leb-true, leb-false}
 use lib.Dec.{leb, lit<, lit≤}
-use Rattle.rounding.specs.Range.{In}
 use Rattle.rounding.specs.Rounding.{up}
 use Rattle.rounding.specs.Fraction.{Fraction, whole, scaled}
 use Rattle.rounding.proofs.RoundingLaws.{rounding-up, up-le}
@@ -16,6 +15,7 @@ use Rattle.rounding.proofs.Ranges.{in-mul}
 use Rattle.rounding.proofs.Near.{Near, near-pos, near-wide}
 use Rattle.sp64.specs.declared.strength.Material.{Material}
 use Rattle.sp64.specs.declared.joint.Joint.{Joint}
+use Rattle.sp64.specs.Ranges.{InUndivided, InWidth}
 use Rattle.sp64.specs.Strength.{MaterialRanges, undivided}
 use Rattle.sp64.specs.Joint.{JointRanges, coreCrushing, sideCrushing, dowelBending, leastTerm, dowelCapacity, jointCount, columns, lengthOf, jointLengthHolds, exactTerm, Carry, Suffices, LeastCount, LeastColumns, ExactJointLength}
 use Rattle.sp64.proofs.StrengthLaws.{undivided-near}
@@ -59,7 +59,7 @@ module _ (N : Fraction) (b : ℕ) (j : Joint) (mat : Material) (k : ℕ) where
   suffices-iff = (carry-least, suffice)
 
 -- g over the cells' ranges
-pub least-term-in : {b : ℕ} {j : Joint} → In 20 300 b → JointRanges j → In 3600 8000000 (leastTerm b j)
+pub least-term-in : {b : ℕ} {j : Joint} → InWidth b → JointRanges j → InUndivided (leastTerm b j)
 least-term-in width jr =
     omega (
       arith,
@@ -70,11 +70,11 @@ least-term-in width jr =
     )
 
 -- T: less than one mN of at least 7,155 is lost
-pub dowel-near : {b : ℕ} {j : Joint} {mat : Material} → In 20 300 b → JointRanges j → MaterialRanges mat → Near 7155 1000 1001 (dowelCapacity b j mat) (exactTerm (leastTerm b j) mat)
+pub dowel-near : {b : ℕ} {j : Joint} {mat : Material} → InWidth b → JointRanges j → MaterialRanges mat → Near 7155 1000 1001 (dowelCapacity b j mat) (exactTerm (leastTerm b j) mat)
 dowel-near width jr known = near-wide 1000 1001 (lit< tt) (lit≤ tt) (undivided-near known 1000000 (lit< tt) (least-term-in width jr))
 
 -- The count lies between the unrounded least count for N and that for k thousandths of N, for every k from 1003.
-module _ (N : ℕ) {b : ℕ} {j : Joint} {mat : Material} (width : In 20 300 b) (jr : JointRanges j) (known : MaterialRanges mat) where
+module _ (N : ℕ) {b : ℕ} {j : Joint} {mat : Material} (width : InWidth b) (jr : JointRanges j) (known : MaterialRanges mat) where
   pos-T : 0 < 2 * dowelCapacity b j mat
   pos-T = omega (arith, dowel-near width jr known .low)
 
@@ -110,7 +110,7 @@ module _ (N : ℕ) {b : ℕ} {j : Joint} {mat : Material} (width : In 20 300 b) 
 abbrev pub exactCount : Fraction → ℕ → Joint → Material → ℕ
 exactCount N b j mat = up (1000 * N .num * 1000000) (2 * undivided (leastTerm b j) mat * N .den)
 
-pub count-exists : (N : Fraction) {b : ℕ} {j : Joint} {mat : Material} → 0 < N .den → In 20 300 b → JointRanges j → MaterialRanges mat → LeastCount N b j mat (exactCount N b j mat)
+pub count-exists : (N : Fraction) {b : ℕ} {j : Joint} {mat : Material} → 0 < N .den → InWidth b → JointRanges j → MaterialRanges mat → LeastCount N b j mat (exactCount N b j mat)
 count-exists N {b} {j} {mat} real width jr known =
     let pos : 0 < 2 * undivided (leastTerm b j) mat * N .den = mul-pos (omega (arith, near-pos (lit< tt) (dowel-near width jr known))) real in
     let n = exactCount N b j mat in
@@ -128,7 +128,7 @@ length-grows : (d : ℕ) {m n : ℕ} → m ≤ n → lengthOf d m ≤ lengthOf d
 length-grows d le = mul-le-mul-left (7 * d) (omega arith)
 
 -- Check 4: what passes rounded holds unrounded, and what fails rounded fails unrounded with N times k thousandths, for every k from 1003.
-module _ (N : ℕ) {b : ℕ} {j : Joint} {mat : Material} (width : In 20 300 b) (jr : JointRanges j) (known : MaterialRanges mat) where
+module _ (N : ℕ) {b : ℕ} {j : Joint} {mat : Material} (width : InWidth b) (jr : JointRanges j) (known : MaterialRanges mat) where
   pub joint-length-pass : jointLengthHolds j (jointCount N b j mat) ≡ true → ExactJointLength (whole N) b j mat
   joint-length-pass e =
       let r = j .across in

@@ -7,11 +7,11 @@ use mathlib.Core.Path.{_≡_, refl, ap}
 use mathlib.Core.Bool.{Bool, true, false, cond}
 use borrow.Author.Tests.{leb-true, leb-false}
 use lib.Dec.{lit<}
-use Rattle.rounding.specs.Range.{In}
 use Rattle.rounding.specs.Rounding.{up}
 use Rattle.rounding.proofs.RoundingLaws.{rounding-down, rounding-up, up-le}
 use Rattle.rounding.proofs.Ranges.{in-lit, in-mul, in-div}
 use Rattle.rounding.proofs.Near.{Near, near-unit}
+use Rattle.sp64.specs.Ranges.{InLength, InPhi, InSide}
 use Rattle.sp64.specs.Slenderness.{Slenderness}
 use Rattle.sp64.specs.Buckling.{stocky, stockyPhi, slenderPhi, bucklingPhi, exactStockyPhi, exactSlenderPhi, exactBucklingPhi}
 
@@ -19,14 +19,14 @@ use Rattle.sp64.specs.Buckling.{stocky, stockyPhi, slenderPhi, bucklingP
 pub stocky-off : (L s : ℕ) → 0 < s * s → 12 * (L * L) ≤ 4900 * (s * s) → up (960 * (L * L)) (s * s) ≤ 392000
 stocky-off L s pos h = up-le pos (omega arith)
 
-module _ {L s : ℕ} (length : In 100 20000 L) (side : In 20 2500 s) where
+module _ {L s : ℕ} (length : InLength L) (side : InSide s) where
   pos-s : 0 < s * s
   pos-s = omega (arith, in-mul side side)
 
   pos-L : 0 < L * L
   pos-L = omega (arith, in-mul length length)
 
-  phi-in-by : (t : Bool) → stocky L s ≡ t → In 250 1000000 (cond t (stockyPhi L s) (slenderPhi L s))
+  phi-in-by : (t : Bool) → stocky L s ≡ t → InPhi (cond t (stockyPhi L s) (slenderPhi L s))
   phi-in-by true e = omega (arith, stocky-off L s pos-s (leb-true _ _ e))
   phi-in-by false e =
       let over : 4900 * (s * s) < 12 * (L * L) = leb-false _ _ e in
@@ -36,7 +36,7 @@ module _ {L s : ℕ} (length : In 100 20000 L) (side : In 20 2500 s) where
       }
 
   -- φ of checks 9 and 10, at any slenderness
-  pub phi-in : In 250 1000000 (bucklingPhi L s)
+  pub phi-in : InPhi (bucklingPhi L s)
   phi-in = phi-in-by _ refl
 
   -- Where the slenderness is at most 200, φ is at least 75,000 millionths, of which rounding takes less than one.

@@ -9,12 +9,20 @@ use Rattle.rounding.proofs.Near.{Near, near-in, near-down}
 use Rattle.sp64.specs.declared.tables.Stress.{Stress}
 use Rattle.sp64.specs.declared.tables.Stress.the-variants.{Bending, Compression, Tension, Shear}
 use Rattle.sp64.specs.declared.strength.Material.{Material}
+use Rattle.sp64.specs.Ranges.{InOffice, InStrength}
 use Rattle.sp64.specs.Tables.{tableStrength, durationFactor}
-use Rattle.sp64.specs.Strength.{MaterialRanges, materialOf, undivided, designStrength, exactStrength, leastStrength, greatestStrength}
+use Rattle.sp64.specs.Strength.{MaterialRanges, materialOf, undivided, designStrength, exactStrength}
 use Rattle.sp64.proofs.TableLaws.{table-in, duration-in, moisture-in}
 
+-- the least strength of a stress
+abbrev pub leastStrength : Stress → ℕ
+leastStrength Bending = 5962
+leastStrength Compression = 5366
+leastStrength Tension = 4770
+leastStrength Shear = 775
+
 -- the material of known codes and an office factor in its range
-pub material-known : (grade regime percent : ℕ) {office : ℕ} → 0 < tableStrength Bending grade → 0 < durationFactor regime → In 500 1000 office → MaterialRanges (materialOf grade regime percent office)
+pub material-known : (grade regime percent : ℕ) {office : ℕ} → 0 < tableStrength Bending grade → 0 < durationFactor regime → InOffice office → MaterialRanges (materialOf grade regime percent office)
 material-known grade regime percent known-grade known-regime o =
     record { grade = known-grade; duration = duration-in regime known-regime; moisture = moisture-in percent; office = o }
 
@@ -29,7 +37,7 @@ module _ {mat : Material} (known : MaterialRanges mat) where
   strength-within : {lo hi table : ℕ} → In lo hi table → In (lo * 53 * 75 * 500 / 10000000) (hi * 110 * 100 * 1000 / 10000000) (undivided table mat / 10000000)
   strength-within i = in-div (lit< tt) (undivided-in i) (in-lit 10000000)
 
-  pub strength-in : (stress : Stress) → In (leastStrength stress) (greatestStrength stress) (designStrength stress mat)
+  pub strength-in : (stress : Stress) → InStrength stress (designStrength stress mat)
   strength-in Bending = strength-within (table-in (mat .grade) (known .grade) Bending)
   strength-in Compression = strength-within (table-in (mat .grade) (known .grade) Compression)
   strength-in Tension = strength-within (table-in (mat .grade) (known .grade) Tension)

@@ -10,6 +10,7 @@ use borrow.Author.Tests.{ne-eqb}
 use Rattle.rounding.specs.Range.{In}
 use Rattle.sp64.specs.declared.tables.Stress.{Stress}
 use Rattle.sp64.specs.declared.tables.Stress.the-variants.{Bending, Compression, Tension, Shear}
+use Rattle.sp64.specs.Ranges.{InDuration, InLimit, InMoisture}
 use Rattle.sp64.specs.Tables.{lookUp, grades, tableStrength, regimes, durationFactor, moistureFactor, table16, slendernessLimit}
 
 -- A, and the code is none of the listed ones: what the last arm of a `match` with an arm for each line knows
@@ -81,17 +82,17 @@ table-any grade known Compression = omega (arith, table-in grade known Compressi
 table-any grade known Tension = omega (arith, table-in grade known Tension)
 table-any grade known Shear = omega (arith, table-in grade known Shear)
 
-pub duration-in : (regime : ℕ) → 0 < durationFactor regime → In 53 110 (durationFactor regime)
+pub duration-in : (regime : ℕ) → 0 < durationFactor regime → InDuration (durationFactor regime)
 duration-in regime = listed-in regimes regime (omega arith)
 
-pub limit-in : (row : ℕ) → 0 < slendernessLimit row → In 120 200 (slendernessLimit row)
+pub limit-in : (row : ℕ) → 0 < slendernessLimit row → InLimit (slendernessLimit row)
 limit-in row = listed-in table16 row (omega arith)
 
-moisture-by : (a b c : Bool) → In 75 100 (cond a 100 (cond b 90 (cond c 85 75)))
+moisture-by : (a b c : Bool) → InMoisture (cond a 100 (cond b 90 (cond c 85 75)))
 moisture-by true b c = omega arith
 moisture-by false true c = omega arith
 moisture-by false false true = omega arith
 moisture-by false false false = omega arith
 
-pub moisture-in : (percent : ℕ) → In 75 100 (moistureFactor percent)
+pub moisture-in : (percent : ℕ) → InMoisture (moistureFactor percent)
 moisture-in percent = moisture-by (leb percent 12) (leb percent 15) (leb percent 20)

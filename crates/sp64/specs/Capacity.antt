@@ -1,19 +1,19 @@
 -- Capacities of a cross-section, rounded down and exact: NR and checks 5 to 8. Widths and heights in mm, R in kPa.
 -- Assumes nothing.
 use Prim.Native.Nat.{ℕ, _-_, _*_}
-use Rattle.rounding.specs.Range.{In}
 use Rattle.rounding.specs.Rounding.{down}
 use Rattle.rounding.specs.Fraction.{Fraction, whole, _⊗_, _⊘_}
 use Rattle.sp64.specs.declared.tables.Stress.{Stress}
 use Rattle.sp64.specs.declared.tables.Stress.the-variants.{Bending}
 use Rattle.sp64.specs.declared.strength.Material.{Material}
 use Rattle.sp64.specs.declared.joint.Joint.{Joint}
+use Rattle.sp64.specs.Ranges.{InHeight, InWidth}
 use Rattle.sp64.specs.Strength.{designStrength, exactStrength}
 
 -- the ranges of cells 6 and 7
 pub record Section (b h : ℕ) : Type 0 where
-  pub width : In 20 300 b
-  pub height : In 60 2500 h
+  pub width : InWidth b
+  pub height : InHeight h
 
 -- a width × a height × R / 1000, down, in N
 abbrev pub axialCapacity : ℕ → ℕ → ℕ → ℕ

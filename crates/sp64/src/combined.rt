@@ -1,11 +1,13 @@
 // Axial force with bending, check 11.
-ghost use Rattle.rounding.specs.Range.{In, Value};
+ghost use Rattle.rounding.specs.Range.{Value};
+ghost use Rattle.rounding.specs.Utilisation.{InUtilisation};
+ghost use Rattle.sp64.specs.Ranges.{InBucklingCapacity, InForce, InMR, InMoment, InNR};
 ghost use Rattle.sp64.specs.Combined.{combined, compressionBending, tensionBending};
 
 // The utilisations of n against nr and of md against mr, added.
 fn combined_utilisation(n: u64, nr: u64, md: u64, mr: u64) -> u64
-    requires { ⌜ In 5724 26400000 nr × In 71544 13406250000 mr ⌝ }
-    ensures { λ r. ⌜ Value 0 9999999 (combined n nr md mr) r ⌝ }
+    requires { ⌜ InNR nr × InMR mr ⌝ }
+    ensures { λ r. ⌜ Value InUtilisation (combined n nr md mr) r ⌝ }
 {
     let sum = rounding::utilisation_of(n, nr) + rounding::utilisation_of(md, mr);
     if 9_999_999 < sum { 9_999_999 } else { sum }
@@ -13,8 +15,8 @@ fn combined_utilisation(n: u64, nr: u64, md: u64, mr: u64) -> u64
 
 // Kind 4, with c the capacity NR × φ'.
 pub fn compression_bending(n: u64, m: u64, nr: u64, c: u64, mr: u64) -> u64
-    requires { ⌜ In 1 100000000 n × In 1 10000000000 m × In 5724 26400000 nr × In 1 4125000000000 c × In 71544 13406250000 mr ⌝ }
-    ensures { λ r. ⌜ Value 0 9999999 (compressionBending n m nr c mr) r ⌝ }
+    requires { ⌜ InForce n × InMoment m × InNR nr × InBucklingCapacity c × InMR mr ⌝ }
+    ensures { λ r. ⌜ Value InUtilisation (compressionBending n m nr c mr) r ⌝ }
 {
     let p = rounding::round_up(1_000_000 * n, c);
     if 1_000_000 <= p {
@@ -26,8 +28,8 @@ pub fn compression_bending(n: u64, m: u64, nr: u64, c: u64, mr: u64) -> u64
 
 // Kind 5, with nr of the tension strength.
 pub fn tension_bending(n: u64, m: u64, nr: u64, mr: u64) -> u64
-    requires { ⌜ In 5724 26400000 nr × In 71544 13406250000 mr ⌝ }
-    ensures { λ r. ⌜ Value 0 9999999 (tensionBending n m nr mr) r ⌝ }
+    requires { ⌜ InNR nr × InMR mr ⌝ }
+    ensures { λ r. ⌜ Value InUtilisation (tensionBending n m nr mr) r ⌝ }
 {
     combined_utilisation(n, nr, m, mr)
 }

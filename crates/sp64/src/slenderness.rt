@@ -1,11 +1,11 @@
 // Slenderness, checks 2 and 3.
 ghost use mathlib.Core.Path.{_≡_};
-ghost use Rattle.rounding.specs.Range.{In};
+ghost use Rattle.sp64.specs.Ranges.{InLength, InLimit, InSide};
 ghost use Rattle.sp64.specs.Slenderness.{slendernessHolds};
 
 // Whether a member of effective length l, buckling across the side s, is within a limit of Table 16.
 pub fn slenderness_holds(limit: u64, l: u64, s: u64) -> bool
-    requires { ⌜ In 0 200 limit × In 100 20000 l × In 20 2500 s ⌝ }
+    requires { ⌜ InLimit limit × InLength l × InSide s ⌝ }
     ensures { λ r. ⌜ r ≡ slendernessHolds limit l s ⌝ }
 {
     12 * (l * l) <= limit * limit * (s * s)

@@ -5,7 +5,8 @@ use crate::tables::moisture_factor;
 use crate::tables::table_strength;
 ghost use mathlib.Core.Path.{_≡_};
 ghost use Rattle.rounding.specs.Range.{In, Value};
-ghost use Rattle.sp64.specs.Strength.{MaterialRanges, materialOf, undivided, designStrength, leastStrength, greatestStrength};
+ghost use Rattle.sp64.specs.Ranges.{InStrength, InUndivided};
+ghost use Rattle.sp64.specs.Strength.{MaterialRanges, materialOf, undivided, designStrength};
 
 // What the strengths of a row follow from: the grade, t and w in hundredths, the office factor o in thousandths.
 pub struct Material {
@@ -29,8 +30,8 @@ pub fn material_of(grade: u64, regime: u64, percent: u64, office: u64) -> Materi
 
 // value × t × w × o, where the value is a strength of Table 7 or a dowel's g.
 pub(crate) fn undivided_product(value: u64, m: Material) -> u64
-    requires { ⌜ In 3600 8000000 value × MaterialRanges m ⌝ }
-    ensures { λ r. ⌜ Value 7155000000 88000000000000 (undivided value m) r ⌝ }
+    requires { ⌜ InUndivided value × MaterialRanges m ⌝ }
+    ensures { λ r. ⌜ Value (In 7155000000 88000000000000) (undivided value m) r ⌝ }
 {
     value * m.duration * m.moisture * m.office
 }
@@ -38,7 +39,7 @@ pub(crate) fn undivided_product(value: u64, m: Material) -> u64
 // R, in kPa.
 pub fn design_strength(stress: Stress, m: Material) -> u64
     requires { ⌜ MaterialRanges m ⌝ }
-    ensures { λ r. ⌜ Value (leastStrength stress) (greatestStrength stress) (designStrength stress m) r ⌝ }
+    ensures { λ r. ⌜ Value (InStrength stress) (designStrength stress m) r ⌝ }
 {
     undivided_product(table_strength(stress, m.grade), m) / 10_000_000
 }
