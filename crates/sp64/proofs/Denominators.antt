@@ -9,7 +9,7 @@ use mathlib.Core.Bool.{true}
 use borrow.Author.Tests.{leb-true}
 use lib.Dec.{lit<, lit≤}
 use Rattle.rounding.specs.Range.{In}
-use Rattle.rounding.specs.Fraction.{Fraction, whole, _⊘_, _⊖_, _≼_, _≺_}
+use Rattle.rounding.specs.Fraction.{Fraction, whole, scaled, _⊘_, _⊕_, _⊖_, _≼_, _≺_}
 use Rattle.rounding.proofs.Ranges.{in-lit, in-mul, in-wide}
 use Rattle.rounding.proofs.Near.{Near, near-pos}
 use Rattle.sp64.specs.declared.tables.Stress.{Stress}
@@ -35,6 +35,10 @@ pub record Proper (x : Fraction) : Type 0 where
 
 proper : {m f g r : ℕ} {x : Fraction} → 0 < m → Near m f g r x → Proper x
 proper pos near = record { real = near .real; some = near-pos pos near }
+
+-- the forces, also times k thousandths
+pub scaled-real : (k : ℕ) (force : Fraction) → 0 < force .den → 0 < scaled k force .den
+scaled-real k force real = omega (arith, real)
 
 -- the height that the dowels leave is not cut off where the layout holds
 pub net-height-kept : {h : ℕ} {j : Joint} → InHeight h → JointRanges j → Layout h j → j .across * j .diameter < h
@@ -123,3 +127,7 @@ module _ (N M C : Fraction) (real-N : 0 < N .den) (real-M : 0 < M .den) (capacit
 
     pub moment-real : 0 < exactSecondOrderMoment M (exactAxialShare N C) .den
     moment-real = mul-pos (omega (arith, real-M)) (remainder-proper .some)
+
+-- the sum of check 11
+pub combined-real : (N NR Md MR : Fraction) → 0 < N .den → Proper NR → 0 < Md .den → Proper MR → 0 < (N ⊘ NR ⊕ Md ⊘ MR) .den
+combined-real N NR Md MR real-N nr real-Md mr = mul-pos (mul-pos real-N (nr .some)) (mul-pos real-Md (mr .some))

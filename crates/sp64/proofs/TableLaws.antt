@@ -28,6 +28,13 @@ unlisted-with A (line ∷ lines) code u =
 pub unlisted : (lines : List (ℕ × ℕ)) (code : ℕ) → Unlisted Unit lines code → 0 ≡ lookUp lines code
 unlisted lines code u = rw (unlisted-with Unit lines code u .1)
 
+-- regime К is not known, and regime И is not capped
+pub regime-K : durationFactor 9 ≡ 0
+regime-K = refl
+
+pub regime-I : durationFactor 8 ≡ 110
+regime-I = refl
+
 -- each figure of the table lies from lo to hi
 abbrev FiguresIn : ℕ → ℕ → List (ℕ × ℕ) → Type 0
 FiguresIn lo hi [] = Unit
