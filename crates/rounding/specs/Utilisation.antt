@@ -12,10 +12,10 @@ InCapacity = In 1 1000000000000
 abbrev pub InUtilisation : ℕ → Type 0
 InUtilisation = In 0 9999999
 
--- any utilisation above 9,999,999 is given as 9,999,999
+-- the cap: no utilisation is given as more than 9,999,999
 abbrev pub capped : ℕ → ℕ
 capped u = min 9999999 u
 
--- 1,000,000 × force / capacity, up
+-- the utilisation of a force against a capacity: 1,000,000 × force / capacity, up, and capped
 abbrev pub utilisation : ℕ → ℕ → ℕ
 utilisation force capacity = capped (up (1000000 * force) capacity)

@@ -9,17 +9,10 @@ use Rattle.rounding.proofs.Near.{Near, near-in, near-down}
 use Rattle.sp64.specs.declared.tables.Stress.{Stress}
 use Rattle.sp64.specs.declared.tables.Stress.the-variants.{Bending, Compression, Tension, Shear}
 use Rattle.sp64.specs.declared.strength.Material.{Material}
-use Rattle.sp64.specs.Ranges.{InOffice, InStrength}
+use Rattle.sp64.specs.Ranges.{InOffice, InStrength, leastStrength}
 use Rattle.sp64.specs.Tables.{tableStrength, durationFactor}
 use Rattle.sp64.specs.Strength.{MaterialRanges, materialOf, undivided, designStrength, exactStrength}
 use Rattle.sp64.proofs.TableLaws.{table-in, duration-in, moisture-in}
-
--- the least strength of a stress
-abbrev pub leastStrength : Stress → ℕ
-leastStrength Bending = 5962
-leastStrength Compression = 5366
-leastStrength Tension = 4770
-leastStrength Shear = 775
 
 -- the material of known codes and an office factor in its range
 pub material-known : (grade regime percent : ℕ) {office : ℕ} → 0 < tableStrength Bending grade → 0 < durationFactor regime → InOffice office → MaterialRanges (materialOf grade regime percent office)

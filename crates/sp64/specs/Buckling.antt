@@ -1,4 +1,5 @@
--- Buckling, checks 9 and 10, and the capacity in p of check 11: φ in millionths, and NR × φ, rounded and unrounded. L is the effective length, s the side across which the member buckles.
+-- Buckling, checks 9 and 10, and the capacity in p of check 11: φ in millionths, and NR × φ, rounded and unrounded. L is the effective length, s the side
+-- across which the member buckles.
 -- Assumes nothing.
 use Prim.Native.Nat.{ℕ, _-_, _*_}
 use mathlib.Core.Bool.{Bool, cond}
@@ -42,7 +43,7 @@ bucklingCapacity NR φ = down (NR * φ) 1000000
 abbrev pub exactBucklingCapacity : Fraction → Fraction → Fraction
 exactBucklingCapacity NR φ = NR ⊗ φ ⊘ whole 1000000
 
--- the capacity in p of check 11: NR × φ' / 1,000,000, down, with φ' the second form of Lh and h, even below slenderness 70
+-- the capacity in p of check 11: NR × φ' / 1,000,000, down, with φ' the second form of Lh and h at any slenderness
 abbrev pub eulerCapacity : ℕ → ℕ → ℕ → ℕ
 eulerCapacity NR L h = bucklingCapacity NR (slenderPhi L h)
 

@@ -27,7 +27,7 @@ exactSecondOrderMoment M p = whole 1000000 ⊗ M ⊘ (whole 1000000 ⊖ p)
 abbrev pub combined : ℕ → ℕ → ℕ → ℕ → ℕ
 combined N NR Md MR = capped (utilisation N NR + utilisation Md MR)
 
--- check 11, unrounded: the two exact ratios add up to at most one
+-- check 11, unrounded: N / NR + Md / MR ≤ 1
 abbrev pub ExactCombined : Fraction → Fraction → Fraction → Fraction → Type 0
 ExactCombined N NR Md MR = N ⊘ NR ⊕ Md ⊘ MR ≼ whole 1
 
@@ -36,7 +36,7 @@ abbrev pub compressionBending : ℕ → ℕ → ℕ → ℕ → ℕ → ℕ
 compressionBending N M NR C MR =
     cond (leb 1000000 (axialShare N C)) 9999999 (combined N NR (secondOrderMoment M (axialShare N C)) MR)
 
--- check 11, kind 4, unrounded: it also fails if p's exact ratio reaches one
+-- check 11, kind 4, unrounded: the exact p stays below one, and the ratios' sum holds with the exact Md
 pub record ExactCompressionBending (N M NR C MR : Fraction) : Type 0 where
   pub share : exactAxialShare N C ≺ whole 1000000
   pub sum : ExactCombined N NR (exactSecondOrderMoment M (exactAxialShare N C)) MR

@@ -55,7 +55,7 @@ dowelCapacity b j m = down (undivided (leastTerm b j) m) 1000000
 abbrev pub dowelCount : ℕ → ℕ → ℕ
 dowelCount N T = up (1000 * N) (2 * T)
 
--- the dowels that N needs
+-- the count of a joint, from the cells
 abbrev pub jointCount : ℕ → ℕ → Joint → Material → ℕ
 jointCount N b j m = dowelCount N (dowelCapacity b j m)
 

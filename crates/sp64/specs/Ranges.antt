@@ -46,12 +46,23 @@ InMoisture = In 75 100
 abbrev pub InLimit : ℕ → Type 0
 InLimit = In 120 200
 
--- R of a stress, in kPa
+-- the least R of a stress, in kPa
+abbrev pub leastStrength : Stress → ℕ
+leastStrength Bending = 5962
+leastStrength Compression = 5366
+leastStrength Tension = 4770
+leastStrength Shear = 775
+
+-- the greatest R of a stress
+abbrev pub greatestStrength : Stress → ℕ
+greatestStrength Bending = 42900
+greatestStrength Compression = 35200
+greatestStrength Tension = 34100
+greatestStrength Shear = 4510
+
+-- R of a stress
 abbrev pub InStrength : Stress → ℕ → Type 0
-InStrength Bending = In 5962 42900
-InStrength Compression = In 5366 35200
-InStrength Tension = In 4770 34100
-InStrength Shear = In 775 4510
+InStrength stress = In (leastStrength stress) (greatestStrength stress)
 
 -- R in tension or in compression
 abbrev pub InAxialStrength : ℕ → Type 0
