@@ -1,6 +1,6 @@
 -- Checks 5 to 11, rounded against unrounded, from the cells' ranges and, where they are needed, layout and slenderness: what passes holds unrounded, and
 -- what fails fails unrounded with the forces times k thousandths, for every k from 1003. In checks 5 to 10 the force may be a fraction that rounds up to
--- the whole number checked. The laws of check 4 and of the count are in JointLaws; checks 1 to 3 round nothing.
+-- the whole number checked. The laws of check 4 and of the count are in JointLaws, those of checks 1 to 3, which round nothing, in YesNoChecks.
 -- Assumes nothing.
 use Prim.Native.Nat.{ℕ, _*_, _≤_, _<_}
 use native.Mathlib.Nat.{mul-le-mul, mul-le-mul-right, le-trans}

@@ -4,5 +4,6 @@ pub mod PhiLaws
 pub mod CapacityLaws
 pub mod CombinedLaws
 pub mod JointLaws
+pub mod YesNoChecks
 pub mod Checks
 pub mod Denominators
