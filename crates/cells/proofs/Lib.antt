@@ -1,0 +1,9 @@
+pub mod LowestLaws
+pub mod FillLaws
+pub mod NumberLaws
+pub mod RowLaws
+pub mod ReadingLaws
+pub mod HostRowLaws
+pub mod AnswerLaws
+pub mod ReadingMeaning
+pub mod AnswerMeaning

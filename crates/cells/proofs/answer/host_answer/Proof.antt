@@ -1,0 +1,31 @@
+-- `host_answer` meets its contract.
+-- Assumes nothing.
+use borrow.Author.Needs.{needs}
+use Rattle.cells.proofs.answer.host_answer.Statement.{statement}
+use Rattle.cells.proofs.answer.host_answer.Tie as tie
+use Rattle.cells.proofs.answer.host_answer.Reads as reads
+use Rattle.cells.proofs.answer.host_answer.Lts as lts
+use Rattle.cells.proofs.answer.float_of.Reads as float-of-reads
+
+float-of-requires : tie.Need-float-of-requires
+float-of-requires c κs = search needs
+
+float-of-requires-2 : tie.Need-float-of-requires-2
+float-of-requires-2 c κs = search needs
+
+float-of-requires-3 : tie.Need-float-of-requires-3
+float-of-requires-3 c κs = search needs
+
+returns : tie.Need-returns
+returns c = (
+  cc,
+  record {
+    utilisation-is = c .before .before .float-of .ensures .1;
+    count-is = c .before .float-of2 .ensures .1;
+    check-is = c .float-of3 .ensures .1;
+  },
+)
+
+pub host-answer-spec : {M : Type 1} → statement M
+host-answer-spec =
+    tie.close (tie.spec float-of-requires float-of-requires-2 float-of-requires-3 returns)

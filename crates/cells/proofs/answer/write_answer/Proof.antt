@@ -1,0 +1,34 @@
+-- `write_answer` meets its contract.
+-- Assumes nothing.
+use borrow.Author.Needs.{needs}
+use mathlib.Core.Path.{ap, _∙_}
+use borrow.Author.Tests.{eq-eqb, ne-eqb}
+use Rattle.cells.specs.HostAnswer.{answerBytes}
+use Rattle.cells.proofs.answer.write_answer.Statement.{statement}
+use Rattle.cells.proofs.answer.write_answer.Tie as tie
+use Rattle.cells.proofs.answer.write_answer.Reads as reads
+use Rattle.cells.proofs.answer.write_answer.Lts as lts
+use Rattle.cells.proofs.answer.host_answer.Reads as host-answer-reads
+use Rattle.cells.proofs.answer.put_answer.Reads as put-answer-reads
+
+returns : tie.Need-returns
+returns c = let t = ne-eqb _ _ (c .if1 .taken) in (rw t, rw t)
+
+host-answer-requires : tie.Need-host-answer-requires
+host-answer-requires c κs = search needs
+
+put-answer-requires : tie.Need-put-answer-requires
+put-answer-requires c κs = search needs
+
+same-length : tie.Need-same-length
+same-length c = search needs
+
+returns-2 : tie.Need-returns-2
+returns-2 c =
+    let p = c .before .before in
+    let t = eq-eqb _ _ (p .before .before .before .if1 .left) in
+    (rw t, rw t (p .put-answer .ensures ∙ ap answerBytes (p .before .host-answer .ensures .0)))
+
+pub write-answer-spec : {M : Type 1} → statement M
+write-answer-spec =
+    tie.close (tie.spec returns host-answer-requires put-answer-requires same-length returns-2)

@@ -1,0 +1,36 @@
+// A cell as the host has it, a cell of whole numbers, and the row.
+ghost use mathlib.Core.Path.{_≡_};
+ghost use Rattle.cells.specs.Row.{blankRow};
+
+// How many cells a row has.
+pub const CELLS: usize = 22;
+
+// A cell as the host has it.
+pub enum HostCell {
+    Blank,
+    Number(f64),
+}
+
+// A cell of a row.
+pub enum Cell {
+    Blank,
+    Whole(u64),
+}
+
+// A cell as an element of a row: an array within a struct holds structs.
+pub struct Slot {
+    pub cell: Cell,
+}
+
+pub struct Row {
+    pub cells: [Slot; CELLS],
+}
+
+// The row in which every cell is blank.
+pub fn blank_row() -> Row
+    ensures { λ r. ⌜ r ≡ blankRow ⌝ }
+{
+    let blank = Slot { cell: Cell::Blank };
+    let cells = [blank; CELLS];
+    Row { cells }
+}
