@@ -1,0 +1,10 @@
+pub mod BitLaws
+pub mod CellLaws
+pub mod PackLaws
+pub mod WriterLaws
+pub mod LayLaws
+pub mod ParseLaws
+pub mod RoundTrip
+pub mod Sizes
+pub mod ReaderLaws
+pub mod UnpackLaws

@@ -1,0 +1,4 @@
+pub mod Bits
+pub mod Packing
+pub mod Unpacking
+pub mod Place

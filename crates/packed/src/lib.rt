@@ -1,0 +1,6 @@
+// A row as packed bytes, and back.
+mod cursor;
+pub mod pack;
+mod reader;
+pub mod unpack;
+mod writer;
