@@ -5,51 +5,39 @@ use Rattle.sp64.proofs.tables.table_strength.Reads as reads
 use Rattle.sp64.proofs.tables.table_strength.Lts as lts
 use Rattle.sp64.proofs.tables.by_grade.Reads as by-grade-reads
 
--- src/tables.rt:30:28
 enum-told : tie.Need-enum-told
 enum-told c = search needs
 
--- src/tables.rt:30:28
 by-grade-requires : tie.Need-by-grade-requires
 by-grade-requires c κs = search needs
 
--- src/tables.rt:31:32
 enum-told-2 : tie.Need-enum-told-2
 enum-told-2 c = search needs
 
--- src/tables.rt:31:32
 by-grade-requires-2 : tie.Need-by-grade-requires-2
 by-grade-requires-2 c κs = search needs
 
--- src/tables.rt:32:28
 enum-told-3 : tie.Need-enum-told-3
 enum-told-3 c = search needs
 
--- src/tables.rt:32:28
 by-grade-requires-3 : tie.Need-by-grade-requires-3
 by-grade-requires-3 c κs = search needs
 
--- src/tables.rt:33:26
 enum-told-4 : tie.Need-enum-told-4
 enum-told-4 c = search needs
 
--- src/tables.rt:33:26
 by-grade-requires-4 : tie.Need-by-grade-requires-4
 by-grade-requires-4 c κs = search needs
 
--- src/tables.rt:26:1
 returns : tie.Need-returns
 returns c = rw (c .before .enum-told .given .1) (c .by-grade .ensures)
 
--- src/tables.rt:26:1
 returns-2 : tie.Need-returns-2
 returns-2 c = rw (c .before .enum-told2 .given .1) (c .by-grade2 .ensures)
 
--- src/tables.rt:26:1
 returns-3 : tie.Need-returns-3
 returns-3 c = rw (c .before .enum-told3 .given .1) (c .by-grade3 .ensures)
 
--- src/tables.rt:26:1
 returns-4 : tie.Need-returns-4
 returns-4 c = rw (c .before .enum-told4 .given .1) (c .by-grade4 .ensures)
 
