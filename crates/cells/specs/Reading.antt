@@ -28,7 +28,7 @@ abbrev pub isUnreadable : Reading → Bool
 isUnreadable (Read cell) = false
 isUnreadable Unreadable = true
 
--- the cell that was read
+-- the cell that was read; it is asked for only where every cell is readable
 abbrev pub cellRead : Reading → Cell
 cellRead (Read cell) = cell
 cellRead Unreadable = Blank

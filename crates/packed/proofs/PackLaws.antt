@@ -15,7 +15,7 @@ use Rattle.cells.specs.declared.row.Cell.{Cell}
 use Rattle.cells.specs.declared.row.Cell.the-variants.{Blank}
 use Rattle.cells.proofs.LowestLaws.{lowest-step, lowest-end}
 use Rattle.packed.specs.Packing.{cellBits, rowBits, bytesFor, packed, tooWide, lowestWide, measureOf, packResult}
-use Rattle.packed.specs.declared.pack.Measured.the-variants.{Bits, TooWide}
+use Rattle.packed.specs.declared.measure.Measured.the-variants.{Bits, TooWide}
 use Rattle.packed.proofs.CellLaws.{wideCell, rowBits-most, length-next, length-packed}
 
 -- ---- measuring

@@ -11,8 +11,8 @@ use Rattle.cells.specs.Refusal.{Result, gives, refuses, refusedBy, whereGiven}
 use Rattle.cells.specs.declared.row.Cell.{Cell}
 use Rattle.cells.specs.declared.row.Cell.the-variants.{Blank, Whole}
 use Rattle.packed.specs.Bits.{bits, bytesOf}
-use Rattle.packed.specs.declared.pack.Measured.{Measured}
-use Rattle.packed.specs.declared.pack.Measured.the-variants.{Bits, TooWide}
+use Rattle.packed.specs.declared.measure.Measured.{Measured}
+use Rattle.packed.specs.declared.measure.Measured.the-variants.{Bits, TooWide}
 use Rattle.packed.specs.declared.pack.Packed.{Packed}
 use Rattle.packed.specs.declared.pack.Packed.the-variants.{Done, Refused}
 

@@ -1,5 +1,6 @@
 // A row as packed bytes, and back.
 mod cursor;
+mod measure;
 pub mod pack;
 mod reader;
 pub mod unpack;

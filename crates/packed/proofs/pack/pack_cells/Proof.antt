@@ -6,7 +6,7 @@ use borrow.Author.Needs.{needs}
 use lib.ListN.{take, length-take}
 use Rattle.cells.specs.Row.{cellsOf}
 use Rattle.packed.specs.Packing.{measureOf}
-use Rattle.packed.specs.declared.pack.Measured.the-variants.{Bits}
+use Rattle.packed.specs.declared.measure.Measured.the-variants.{Bits}
 use Rattle.packed.proofs.CellLaws.{rowBits-most}
 use Rattle.packed.proofs.PackLaws.{pack-wide, pack-short, pack-done, narrow-measured}
 use Rattle.packed.proofs.pack.pack_cells.Statement.{statement}

@@ -9,8 +9,8 @@ use Rattle.cells.specs.Row.{cellsOf}
 use Rattle.packed.specs.Packing.{tooWide}
 use Rattle.packed.proofs.CellLaws.{length-first, first-at}
 use Rattle.packed.proofs.PackLaws.{Counted, counted-none, counted-most, counted-next, measured-wide, measured-bits}
-use Rattle.packed.proofs.pack.measure.Statement.{statement}
-use Rattle.packed.proofs.pack.measure.Tie as tie
+use Rattle.packed.proofs.measure.measure.Statement.{statement}
+use Rattle.packed.proofs.measure.measure.Tie as tie
 
 abbrev Inv-loop : tie.InvT-loop
 Inv-loop n cells bits₀ i₀ bits i = (i ≤ n) × Counted (take n (cellsOf (record { cells = cells }))) i bits

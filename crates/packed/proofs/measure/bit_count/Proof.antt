@@ -3,8 +3,8 @@
 use mathlib.Core.Path.{sym}
 use borrow.Author.Needs.{needs}
 use Rattle.packed.proofs.CellLaws.{length-blank, length-whole}
-use Rattle.packed.proofs.pack.bit_count.Statement.{statement}
-use Rattle.packed.proofs.pack.bit_count.Tie as tie
+use Rattle.packed.proofs.measure.bit_count.Statement.{statement}
+use Rattle.packed.proofs.measure.bit_count.Tie as tie
 
 enum-told : tie.Need-enum-told
 enum-told c = search needs

@@ -2,8 +2,8 @@
 -- Assumes nothing.
 use borrow.Author.Needs.{needs}
 use Rattle.packed.proofs.CellLaws.{wide-test}
-use Rattle.packed.proofs.pack.is_too_wide.Statement.{statement}
-use Rattle.packed.proofs.pack.is_too_wide.Tie as tie
+use Rattle.packed.proofs.measure.is_too_wide.Statement.{statement}
+use Rattle.packed.proofs.measure.is_too_wide.Tie as tie
 
 enum-told : tie.Need-enum-told
 enum-told c = search needs
