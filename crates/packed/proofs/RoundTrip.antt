@@ -130,3 +130,13 @@ pack-unpack-buffer n count bytes cells buffer known e room =
     let u = unpack-gives n count bytes cells e in
     rw (u .narrow, le-leb (length (packed cells)) (length buffer) (omega (arith, u .size)))
     (ap₂ (λ (front back : List ℕ). front ++ back) (u .same known) (ap (λ (k : ℕ). drop k buffer) (u .size)))
+
+-- bytes after those that were read do not matter
+pub later-bytes : (n count : ℕ) (bytes : List ℕ) (cells : List Cell) (after : List ℕ) → Bytes bytes → unpacked n bytes ≡ gives (cells, count)
+    → unpacked n (bytes ++ after) ≡ gives (cells, count)
+later-bytes n count bytes cells after known e =
+    let u = unpack-gives n count bytes cells e in
+    let apart : bytes ++ after ≡ packed cells ++ (drop count bytes ++ after) =
+    ap (λ (l : List ℕ). l ++ after) (sym (take-append-drop count bytes) ∙ ap (λ (l : List ℕ). l ++ drop count bytes) (sym (u .same known)))
+    ∙ append-assoc (packed cells) (drop count bytes) after in
+    ap₂ unpacked (sym (u .long)) apart ∙ unpack-pack cells (drop count bytes ++ after) (u .narrow) ∙ ap (λ (k : ℕ). gives (cells, k)) (u .size)
