@@ -22,6 +22,7 @@ use Rattle.cells.specs.Reading.{readCell, isUnreadable, lowestUnreadable
 use Rattle.cells.specs.Refusal.{refuses}
 use Rattle.cells.specs.declared.row.Cell.the-variants.{Blank, Whole}
 use Rattle.cells.specs.declared.row.HostCell.{HostCell}
+use Rattle.cells.specs.declared.row.HostCell.the-variants.{Blank as Empty}
 use Rattle.cells.specs.declared.number.Reading.{Reading}
 use Rattle.cells.specs.declared.number.Reading.the-variants.{Read, Unreadable}
 use Rattle.cells.proofs.AnswerLaws.{whole-exact}
@@ -166,3 +167,8 @@ one-from-bytes = refl
 -- A row of another length than 198 bytes is refused, tied to no cell.
 pub another-length : (bytes : List ℕ) → (length bytes ≡ 198 → ⊥) → readHostRow bytes ≡ refuses 1 0
 another-length bytes other = rw (ne-eqb (length bytes) 198 other)
+
+-- A first byte of 0 makes it blank, whatever its other bytes.
+pub blank-whatever-follows : (bytes : List ℕ) (at : ℕ) → getD bytes at 0 ≡ 0 → hostCellAt bytes at ≡ Empty
+unfolding hostCellAt
+blank-whatever-follows bytes at h = rw (eq-eqb _ _ h)

@@ -1,4 +1,4 @@
--- The answer of a check as the host gets it: utilisation, count and check number as floats, in 24 bytes.
+-- The answer of a check as the host gets it: three floats in 24 bytes.
 -- Assumes nothing.
 use Prim.Native.Nat.{ℕ, zero, suc, _/_, _%_}
 use mathlib.Core.Bool.{cond, not}
@@ -15,7 +15,7 @@ unfoldable pub wordBytes : ℕ → ℕ → List ℕ
 wordBytes zero w = []
 wordBytes (suc n) w = w % 256 ∷ wordBytes n (w / 256)
 
--- a float's 64 bits, lowest byte first
+-- a float as eight bytes, the least significant first
 abbrev pub floatBytes : Float → List ℕ
 floatBytes x = wordBytes 8 (toBits binary64 x)
 
@@ -23,7 +23,7 @@ floatBytes x = wordBytes 8 (toBits binary64 x)
 abbrev pub wholeFloat : ℕ → Float
 wholeFloat n = ofInt binary64 (pos n)
 
--- utilisation, count and check number as floats
+-- the three numbers of an answer, each as a float
 abbrev pub hostAnswer : ℕ → ℕ → ℕ → HostAnswer
 hostAnswer utilisation count check = record { utilisation = wholeFloat utilisation; count = wholeFloat count; check = wholeFloat check }
 

@@ -1,4 +1,4 @@
--- The host's row of bytes: for each cell a byte, 0 blank or 1 filled, and then the float's 64 bits, lowest byte first.
+-- The host's row: nine bytes for each cell. The first is 1 for a filled cell and 0 for a blank; the other eight are the float, least significant byte first.
 -- Assumes nothing.
 use Prim.Native.Nat.{ℕ, zero, suc, _+_, _*_, _^_}
 use mathlib.Core.Bool.{cond}

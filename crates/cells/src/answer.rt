@@ -46,7 +46,7 @@ fn put_word(out: &mut [u8], word: u64)
     }
 }
 
-// A float's 64 bits, lowest byte first.
+// A float as eight bytes, the least significant first.
 fn put_float(out: &mut [u8], x: f64)
     requires { ⌜ (length (now out) ≡ 8) × T (not (isNan x)) ⌝ }
     ensures { λ _. ⌜ now (out .exit) ≡ floatBytes x ⌝ }

@@ -6,9 +6,9 @@ ghost use Rattle.cells.specs.Refusal.{refusalNumber, refusalCell, refusa
 pub enum Refusal {
     // 1: the host's row has another length.
     RowLength,
-    // 1: a filled cell is not a whole number below 2^34.
+    // 1: a cell holds something else than a whole number below 2^34.
     Unreadable(u32),
-    // 2: a cell is blank or filled against its kind.
+    // 2: a cell that the kind asks for is blank, or one that it has no use for is filled.
     Misfilled(u32),
     // 3: a code is not known.
     UnknownCode(u32),

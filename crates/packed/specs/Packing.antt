@@ -16,7 +16,7 @@ use Rattle.packed.specs.declared.measure.Measured.the-variants.{Bits, To
 use Rattle.packed.specs.declared.pack.Packed.{Packed}
 use Rattle.packed.specs.declared.pack.Packed.the-variants.{Done, Refused}
 
--- the bits of a cell: 0 if it is blank, otherwise 1 and 34 bits of value, the most significant first
+-- the bits of a cell: a single 0 for a blank; for a whole number a 1 and then its 34 binary digits, most significant first
 unfoldable pub cellBits : Cell → List Bool
 cellBits Blank = false ∷ []
 cellBits (Whole value) = true ∷ bits valueBits value
@@ -30,7 +30,7 @@ rowBits (cell ∷ cells) = cellBits cell ++ rowBits cells
 abbrev pub bytesFor : ℕ → ℕ
 bytesFor n = (n + 7) / 8
 
--- the packed cells: their bits, and zero bits to fill the last byte
+-- the packed cells: their bits, with zeros up to the next whole byte
 unfoldable pub packed : List Cell → List ℕ
 packed cells = bytesOf (bytesFor (length (rowBits cells))) (rowBits cells)
 

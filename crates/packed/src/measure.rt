@@ -23,7 +23,7 @@ fn is_too_wide(cell: Cell) -> bool
     }
 }
 
-// 1 for a blank; 1 and 34 of value otherwise.
+// A blank is one bit, a value 34 bits after one that marks it.
 fn bit_count(cell: Cell) -> usize
     ensures { λ r. ⌜ r ≡ length (cellBits cell) ⌝ }
 {

@@ -34,7 +34,7 @@ fn flush(out: &mut [u8], cursor: Cursor) -> Cursor
     }
 }
 
-// Writes one cell: 0 if it is blank, otherwise 1 and 34 bits of value.
+// Writes one cell: a 0 for a blank, or a 1 and the value's 34 bits.
 fn write_cell(out: &mut [u8], cursor: Cursor, cell: Cell) -> Cursor
     requires { ⌜ (cursor .count < 8) × (cursor .waiting < 2 ^ (cursor .count)) × (tooWide cell ≡ false)
         × (cursor .at * 8 + cursor .count + length (cellBits cell) ≤ length (now out) * 8) ⌝ }
