@@ -119,6 +119,13 @@ unfolding number
 number-nil zero = refl
 number-nil (suc k) = refl
 
+-- bits past the first k do not matter
+pub number-front : (k : ℕ) (bs more : List Bool) → k ≤ length bs → number k (bs ++ more) ≡ number k bs
+unfolding number
+number-front zero bs more h = refl
+number-front (suc k) [] more h = absurd (omega arith)
+number-front (suc k) (b ∷ bs) more h = rw (number-front k bs more (le-of-suc-le-suc h))
+
 -- zeros at the end change nothing
 pub number-zeros : (k j : ℕ) (bs : List Bool) → number k (bs ++ replicate j false) ≡ number k bs
 unfolding number

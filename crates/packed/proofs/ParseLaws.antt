@@ -7,7 +7,7 @@ use native.Mathlib.Omega.{arith}
 use mathlib.Core.List.{List, [], _∷_, _++_, append-assoc}
 use mathlib.Core.Bool.{Bool, true, false, cond}
 use lib.ListN.{length, drop, replicate, length-append, take-append-drop}
-use lib.Seq.{drop-at}
+use lib.Seq.{drop-at, drop-append-le}
 use lib.Dec.{leb}
 use borrow.Author.Tests.{le-leb, leb-true, lt-ltb}
 use Rattle.cells.specs.Row.{valueBits}
@@ -18,7 +18,7 @@ use Rattle.cells.specs.declared.row.Cell.the-variants.{Blank, Whole}
 use Rattle.packed.specs.Bits.{bits, number}
 use Rattle.packed.specs.Packing.{cellBits, rowBits}
 use Rattle.packed.specs.Unpacking.{before, parse, anySet}
-use Rattle.packed.proofs.BitLaws.{length-bits, number-bits, number-lt, bits-number}
+use Rattle.packed.proofs.BitLaws.{length-bits, number-bits, number-front, number-lt, bits-number}
 use Rattle.packed.proofs.CellLaws.{wideCell, narrow-lt, Narrow}
 
 -- ---- there
@@ -93,6 +93,41 @@ parse-tells (suc n) i (true ∷ bs) = by (leb valueBits (length bs)) refl (parse
         → IfParsed (suc n) (true ∷ bs) (cond t (before (Whole (number valueBits bs)) (parse n (suc i) (drop valueBits bs))) (refuses 6 i))
     by true e h = parsed-whole n bs (parse n (suc i) (drop valueBits bs)) (leb-true valueBits (length bs) e) h
     by false e h = tt
+
+-- ---- with more bits behind
+
+-- what a parse tells of one with more bits behind: it gives the same cells, and the further bits after the rest; or it was cut off
+abbrev pub Extends : List Bool → Result (List Cell × List Bool) → Result (List Cell × List Bool) → Type 0
+Extends more (gives (cells, rest)) longer = longer ≡ gives (cells, rest ++ more)
+Extends more (refuses number cell) longer = number ≡ 6
+
+-- one cell more
+extends-before : (more : List Bool) (cell : Cell) (parsed longer : Result (List Cell × List Bool)) → Extends more parsed longer
+    → Extends more (before cell parsed) (before cell longer)
+unfolding before
+extends-before more cell (gives (cells, rest)) longer h = ap (before cell) h
+extends-before more cell (refuses number named) longer h = h
+
+-- every parse does
+pub parse-extends : (n i : ℕ) (bs more : List Bool) → Extends more (parse n i bs) (parse n i (bs ++ more))
+unfolding parse
+parse-extends zero i bs more = refl
+parse-extends (suc n) i [] more = refl
+parse-extends (suc n) i (false ∷ bs) more = extends-before more Blank (parse n (suc i) bs) (parse n (suc i) (bs ++ more)) (parse-extends n (suc i) bs more)
+parse-extends (suc n) i (true ∷ bs) more = by (leb valueBits (length bs)) refl (parse-extends n (suc i) (drop valueBits bs) more)
+  where
+    by : (t : Bool) → leb valueBits (length bs) ≡ t → Extends more (parse n (suc i) (drop valueBits bs)) (parse n (suc i) (drop valueBits bs ++ more))
+        → Extends more (cond t (before (Whole (number valueBits bs)) (parse n (suc i) (drop valueBits bs))) (refuses 6 i))
+        (cond (leb valueBits (length (bs ++ more))) (before (Whole (number valueBits (bs ++ more))) (parse n (suc i) (drop valueBits (bs ++ more)))) (refuses 6 i))
+    by false e h = refl
+    by true e h =
+        let enough : valueBits ≤ length bs = leb-true valueBits (length bs) e in
+        rw (
+          le-leb valueBits (length (bs ++ more)) (omega (arith, length-append bs more)),
+          number-front valueBits bs more enough,
+          drop-append-le valueBits bs more enough,
+        )
+        (extends-before more (Whole (number valueBits bs)) (parse n (suc i) (drop valueBits bs)) (parse n (suc i) (drop valueBits bs ++ more)) h)
 
 -- ---- padding
 

@@ -6,7 +6,7 @@ use native.Mathlib.Omega.{arith}
 use mathlib.Core.List.{List, _++_, append-assoc}
 use mathlib.Core.Bool.{Bool, true, false, cond}
 use lib.ListN.{length, take, drop, replicate, length-append, length-replicate, take-append-drop}
-use lib.Seq.{take-at, length-take-le}
+use lib.Seq.{take-at, take-append-le, length-take-le}
 use borrow.Author.Tests.{le-leb}
 use Rattle.cells.specs.Refusal.{Result, gives, refuses}
 use Rattle.cells.specs.declared.row.Cell.{Cell}
@@ -15,7 +15,7 @@ use Rattle.packed.specs.Packing.{rowBits, bytesFor, packed, lowestWide, 
 use Rattle.packed.specs.Unpacking.{parse, anySet, padding, ending, unpacked}
 use Rattle.packed.proofs.BitLaws.{take-bytes, bitsOf-append, length-bitsOf, bitsOf-filled}
 use Rattle.packed.proofs.CellLaws.{narrow-cells, length-packed, packed-by}
-use Rattle.packed.proofs.ParseLaws.{parse-cells, Parses, IfParsed, parse-tells, none-set, all-zero}
+use Rattle.packed.proofs.ParseLaws.{parse-cells, Parses, IfParsed, parse-tells, Extends, parse-extends, none-set, all-zero}
 
 -- ---- cells to bytes and back
 
@@ -131,12 +131,19 @@ pack-unpack-buffer n count bytes cells buffer known e room =
     rw (u .narrow, le-leb (length (packed cells)) (length buffer) (omega (arith, u .size)))
     (ap₂ (λ (front back : List ℕ). front ++ back) (u .same known) (ap (λ (k : ℕ). drop k buffer) (u .size)))
 
--- bytes after those that were read do not matter
-pub later-bytes : (n count : ℕ) (bytes : List ℕ) (cells : List Cell) (after : List ℕ) → Bytes bytes → unpacked n bytes ≡ gives (cells, count)
-    → unpacked n (bytes ++ after) ≡ gives (cells, count)
-later-bytes n count bytes cells after known e =
-    let u = unpack-gives n count bytes cells e in
-    let apart : bytes ++ after ≡ packed cells ++ (drop count bytes ++ after) =
-    ap (λ (l : List ℕ). l ++ after) (sym (take-append-drop count bytes) ∙ ap (λ (l : List ℕ). l ++ drop count bytes) (sym (u .same known)))
-    ∙ append-assoc (packed cells) (drop count bytes) after in
-    ap₂ unpacked (sym (u .long)) apart ∙ unpack-pack cells (drop count bytes ++ after) (u .narrow) ∙ ap (λ (k : ℕ). gives (cells, k)) (u .size)
+-- ---- later bytes
+
+-- unless the row is cut off, the bytes after it do not matter
+pub later-bytes : (n : ℕ) (bytes after : List ℕ) → ((cell : ℕ) → unpacked n bytes ≡ refuses 6 cell → ⊥) → unpacked n (bytes ++ after) ≡ unpacked n bytes
+unfolding unpacked ending
+later-bytes n bytes after whole = by (parse n 1 (bitsOf bytes)) refl (parse-extends n 1 (bitsOf bytes) (bitsOf after))
+  where
+    by : (parsed : Result (List Cell × List Bool)) → parse n 1 (bitsOf bytes) ≡ parsed
+        → Extends (bitsOf after) parsed (parse n 1 (bitsOf bytes ++ bitsOf after))
+        → ending (length (bytes ++ after)) (parse n 1 (bitsOf (bytes ++ after))) ≡ ending (length bytes) parsed
+    by (refuses number cell) e h = absurd (whole cell (rw (e, h)))
+    by (gives (cells, rest)) e h =
+        let size : length (rest ++ bitsOf after) ≡ length rest + length after * 8 = length-append rest (bitsOf after) ∙ ap (λ (k : ℕ). length rest + k) (length-bitsOf after) in
+        let part : length (rest ++ bitsOf after) % 8 ≡ length rest % 8 = omega arith in
+        let count : length (bytes ++ after) - length (rest ++ bitsOf after) / 8 ≡ length bytes - length rest / 8 = omega (arith, length-append bytes after) in
+        rw (bitsOf-append bytes after, h, part, take-append-le (length rest % 8) rest (bitsOf after) (omega arith), count)
