@@ -2,7 +2,7 @@ pub mod BitLaws
 pub mod CellLaws
 pub mod PackLaws
 pub mod WriterLaws
-pub mod LayLaws
+pub mod BufferLaws
 pub mod ParseLaws
 pub mod RoundTrip
 pub mod Sizes

@@ -48,8 +48,8 @@ abbrev pub measureOf : List Cell → Measured
 measureOf cells = cond (eqb (lowestWide cells) 0) (Bits (length (rowBits cells))) (TooWide (lowestWide cells))
 
 -- the packed cells in a buffer, and after them what was there
-abbrev pub laid : List Cell → List ℕ → List ℕ
-laid cells buffer = packed cells ++ drop (length (packed cells)) buffer
+abbrev pub packedInto : List Cell → List ℕ → List ℕ
+packedInto cells buffer = packed cells ++ drop (length (packed cells)) buffer
 
 -- "Pack a row" into `room` bytes: refusal 4 and the lowest such cell; then 5, cell 0, for too little space; otherwise the byte count
 abbrev pub packResult : List Cell → ℕ → Result ℕ
@@ -60,7 +60,7 @@ packResult cells room =
 
 -- the buffer after "Pack a row": the packed cells and then what was there, or untouched by a refusal
 abbrev pub packBuffer : List Cell → List ℕ → List ℕ
-packBuffer cells buffer = whereGiven (packResult cells (length buffer)) (laid cells buffer) buffer
+packBuffer cells buffer = whereGiven (packResult cells (length buffer)) (packedInto cells buffer) buffer
 
 -- what the answer of packing says: the byte count, or a refusal's number and cell
 abbrev pub packedResult : Packed → Result ℕ

@@ -1,7 +1,7 @@
 // Pack a row: into a lent buffer, or a refusal that leaves the buffer untouched.
 use crate::measure::Measured;
 use crate::measure::measure;
-use crate::writer::lay;
+use crate::writer::write_cells;
 use cells::refusal::Refusal;
 use cells::row::CELLS;
 use cells::row::Row;
@@ -31,7 +31,7 @@ pub fn pack_cells(row: Row, n: usize, buffer: &mut [u8]) -> Packed
             if buffer.len() < size {
                 return Packed::Refused(Refusal::BufferSize);
             }
-            lay(row, n, buffer);
+            write_cells(row, n, buffer);
             Packed::Done(size)
         }
     }

@@ -9,7 +9,7 @@ ghost use mathlib.Core.List.{[]};
 ghost use Prim.Native.Nat.{_+_, _*_, _^_, _≤_, _<_};
 ghost use lib.ListN.{length, take};
 ghost use Rattle.cells.specs.Row.{cellCount, cellsOf};
-ghost use Rattle.packed.specs.Packing.{cellBits, rowBits, bytesFor, tooWide, lowestWide, laid};
+ghost use Rattle.packed.specs.Packing.{cellBits, rowBits, bytesFor, tooWide, lowestWide, packedInto};
 ghost use Rattle.packed.specs.Place.{Wrote};
 
 // Writes the whole bytes of the bits that wait.
@@ -64,10 +64,10 @@ fn write_cell(out: &mut [u8], cursor: Cursor, cell: Cell) -> Cursor
 }
 
 // Writes the first n cells, where each is narrow enough and the buffer has room.
-pub fn lay(row: Row, n: usize, buffer: &mut [u8])
+pub fn write_cells(row: Row, n: usize, buffer: &mut [u8])
     requires { ⌜ (n ≤ cellCount) × (lowestWide (take n (cellsOf row)) ≡ 0)
         × (bytesFor (length (rowBits (take n (cellsOf row)))) ≤ length (now buffer)) ⌝ }
-    ensures { λ _. ⌜ now (buffer .exit) ≡ laid (take n (cellsOf row)) (now (buffer .entry)) ⌝ }
+    ensures { λ _. ⌜ now (buffer .exit) ≡ packedInto (take n (cellsOf row)) (now (buffer .entry)) ⌝ }
 {
     let cells = row.cells;
     let mut cursor = at_start();

@@ -1,4 +1,4 @@
--- `pack_cells` meets its contract: what `measure` found decides between refusal 4, refusal 5 and laying the cells.
+-- `pack_cells` meets its contract: what `measure` found decides between refusal 4, refusal 5 and writing the cells.
 -- Assumes nothing.
 use mathlib.Core.Path.{_≡_, sym, _∙_}
 use native.Mathlib.Omega.{arith}
@@ -36,8 +36,8 @@ add-size c =
 returns : tie.Need-returns
 returns c = let e = pack-short _ _ _ (found (c .before)) (c .if1 .taken) in (sym e, rw e)
 
-lay-requires : tie.Need-lay-requires
-lay-requires c κs =
+write-cells-requires : tie.Need-write-cells-requires
+write-cells-requires c κs =
     let p = narrow-measured _ _ (found (c .before .before)) in
     (c .before .before .before .before .before .before .before .pre, p .0, rw (p .1) (c .before .if1 .left))
 
@@ -53,7 +53,7 @@ returns-3 : tie.Need-returns-3
 returns-3 c =
     let l = c .before .before .before .before in
     let e = pack-done _ _ _ (found (l .before)) (l .if1 .left) in
-    (sym e, rw e (c .before .before .lay .ensures))
+    (sym e, rw e (c .before .before .write-cells .ensures))
 
 pub pack-cells-spec : {M : Type 1} → statement M
 pack-cells-spec =
@@ -64,7 +64,7 @@ pack-cells-spec =
     enum-known-measured-2
     add-size
     returns
-    lay-requires
+    write-cells-requires
     returns-2
     same-length
     returns-3)

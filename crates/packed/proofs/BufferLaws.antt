@@ -1,4 +1,4 @@
--- Laws of laying cells into a buffer: one cell after another, and at the end the byte that the zero bits fill.
+-- Laws of writing cells into a buffer: one cell after another, and at the end the byte that the zero bits fill.
 -- Assumes nothing.
 use mathlib.Core.Path.{_≡_, refl, sym, ap, ap₂, _∙_}
 use Prim.Native.Nat.{ℕ, _+_, _-_, _*_, _%_, _^_, _≤_, _<_}
@@ -12,7 +12,7 @@ use lib.Seq.{length-take-le, take-suc-set}
 use lib.Pow.{pow-mono, pow-pos}
 use Rattle.cells.specs.declared.row.Cell.{Cell}
 use Rattle.packed.specs.Bits.{Bytes, bits, bitsOf}
-use Rattle.packed.specs.Packing.{rowBits, packed, bytesFor, laid}
+use Rattle.packed.specs.Packing.{rowBits, packed, bytesFor, packedInto}
 use Rattle.packed.specs.Place.{start, written, Wrote}
 use Rattle.packed.specs.declared.cursor.Cursor.{Cursor}
 use Rattle.packed.proofs.BitLaws.{bits-append, bits-zero, append-lt, bitsOf-append, take-bytes, set-bytes}
@@ -20,7 +20,7 @@ use Rattle.packed.proofs.CellLaws.{packed-by}
 use Rattle.packed.proofs.WriterLaws.{beyond-byte}
 
 -- the buffer that came in, the buffer now and the place: bs is written, and the rest is as it was
-pub record Laying (buffer out : List ℕ) (place : Cursor) (bs : List Bool) : Type 0 where
+pub record Writing (buffer out : List ℕ) (place : Cursor) (bs : List Bool) : Type 0 where
   pub bytes : Bytes out
   pub same : length out ≡ length buffer
   pub wrote : Wrote buffer out start place bs
@@ -43,37 +43,37 @@ last-lt count waiting h l =
 
 -- ---- all cells are written
 
--- where the first n bytes hold the cells and then fewer than eight zeros, and the others are as they were, the cells are laid
-laid-by : (cells : List Cell) (buffer out : List ℕ) (n j : ℕ) → Bytes out → n ≤ length out → j < 8
-    → bitsOf (take n out) ≡ rowBits cells ++ replicate j false → drop n out ≡ drop n buffer → out ≡ laid cells buffer
-laid-by cells buffer out n j known inside few e rest =
+-- where the first n bytes hold the cells and then fewer than eight zeros, and the others are as they were, the buffer holds the packed cells
+packed-from : (cells : List Cell) (buffer out : List ℕ) (n j : ℕ) → Bytes out → n ≤ length out → j < 8
+    → bitsOf (take n out) ≡ rowBits cells ++ replicate j false → drop n out ≡ drop n buffer → out ≡ packedInto cells buffer
+packed-from cells buffer out n j known inside few e rest =
     let same : packed cells ≡ take n out = packed-by cells (take n out) j (take-bytes n out known) few e in
     let size : length (packed cells) ≡ n = ap length same ∙ length-take-le n out inside in
     sym (take-append-drop n out)
     ∙ ap₂ (λ (front back : List ℕ). front ++ back) (sym same) (rest ∙ ap (λ (k : ℕ). drop k buffer) (sym size))
 
 module _ (cells : List Cell) {buffer out : List ℕ} {place : Cursor} (room : bytesFor (length (rowBits cells)) ≤ length buffer)
-    (h : Laying buffer out place (rowBits cells)) where
+    (h : Writing buffer out place (rowBits cells)) where
   all-bits : bitsOf (take (place .at) out) ++ bits (place .count) (place .waiting) ≡ rowBits cells
   unfolding written bitsOf bits
   all-bits = h .wrote .after
 
   -- no bits wait
-  pub laid-whole : place .count ≤ 0 → out ≡ laid cells buffer
-  laid-whole z =
+  pub packed-whole : place .count ≤ 0 → out ≡ packedInto cells buffer
+  packed-whole z =
       let none : place .count ≡ 0 = omega arith in
       let empty : bits (place .count) (place .waiting) ≡ [] = rw none (unfold bits in refl) in
       let e : bitsOf (take (place .at) out) ≡ rowBits cells ++ replicate 0 false =
       sym (append-nil _) ∙ ap (λ (bs : List Bool). bitsOf (take (place .at) out) ++ bs) (sym empty) ∙ all-bits ∙ sym (append-nil _) in
-      laid-by cells buffer out (place .at) 0 (h .bytes) (omega (arith, h .wrote .place, h .same)) (omega arith) e (h .wrote .beyond)
+      packed-from cells buffer out (place .at) 0 (h .bytes) (omega (arith, h .wrote .place, h .same)) (omega arith) e (h .wrote .beyond)
 
   -- some do: there is room for their byte
   pub last-inside : 0 < place .count → place .at < length out
   last-inside z = omega (arith, h .wrote .place, h .same)
 
-  -- and with it the cells are laid
-  pub laid-part : 0 < place .count → set out (place .at) (place .waiting * 2 ^ (8 - place .count) % 2 ^ 64) ≡ laid cells buffer
-  laid-part z =
+  -- and with it the buffer holds the packed cells
+  pub packed-part : 0 < place .count → set out (place .at) (place .waiting * 2 ^ (8 - place .count) % 2 ^ 64) ≡ packedInto cells buffer
+  packed-part z =
       let count : ℕ = place .count in
       let few : place .count < 8 = h .wrote .few in
       let byte : ℕ = place .waiting * 2 ^ (8 - count) in
@@ -87,7 +87,7 @@ module _ (cells : List Cell) {buffer out : List ℕ} {place : Cursor} (room : by
       ∙ sym (append-assoc (bitsOf (take (place .at) out)) (bits count (place .waiting)) (replicate (8 - count) false))
       ∙ ap (λ (bs : List Bool). bs ++ replicate (8 - count) false) all-bits)) in
       rw whole
-      (laid-by cells buffer (set out (place .at) byte) (place .at + 1) (8 - count)
+      (packed-from cells buffer (set out (place .at) byte) (place .at + 1) (8 - count)
       (set-bytes out (place .at) byte small (h .bytes))
       (rw length-set (omega arith))
       (omega arith)

@@ -1,4 +1,4 @@
--- `lay` meets its contract: the loop writes one cell after another, and the last byte is filled with zero bits.
+-- `write_cells` meets its contract: the loop writes one cell after another, and the last byte is filled with zero bits.
 -- Assumes nothing.
 use mathlib.Core.Path.{_≡_, refl, sym, _∙_}
 use Prim.Native.Nat.{_+_, _-_, _≤_}
@@ -10,13 +10,13 @@ use Rattle.cells.specs.Row.{cellsOf}
 use Rattle.packed.specs.Packing.{rowBits}
 use Rattle.packed.proofs.CellLaws.{length-first, first-at, rowBits-le, rowBits-next, length-next, narrow-cells}
 use Rattle.packed.proofs.WriterLaws.{wrote-none, wrote-more}
-use Rattle.packed.proofs.LayLaws.{Laying, last-lt, last-inside, laid-part, laid-whole}
-use Rattle.packed.proofs.writer.lay.Statement.{statement}
-use Rattle.packed.proofs.writer.lay.Tie as tie
+use Rattle.packed.proofs.BufferLaws.{Writing, last-lt, last-inside, packed-part, packed-whole}
+use Rattle.packed.proofs.writer.write_cells.Statement.{statement}
+use Rattle.packed.proofs.writer.write_cells.Tie as tie
 
 abbrev Inv-loop : tie.InvT-loop
 Inv-loop n buffer₀ cells cursor₀ i₀ buffer cursor i =
-    (i ≤ n) × Laying buffer₀ buffer cursor (rowBits (take i (take n (cellsOf (record { cells = cells })))))
+    (i ≤ n) × Writing buffer₀ buffer cursor (rowBits (take i (take n (cellsOf (record { cells = cells })))))
 
 abbrev μ-loop : tie.MeasureT-loop
 μ-loop n buffer₀ cells cursor₀ i₀ buffer cursor i = n - i
@@ -85,7 +85,7 @@ loop-again c =
 
 -- after the loop all cells are written
 all-written : (c : tie.After-loop Inv-loop μ-loop)
-    → Laying (c .before .before .before .before .before .args .buffer .now) (c .before .loop .buffer) (c .before .loop .cursor)
+    → Writing (c .before .before .before .before .before .args .buffer .now) (c .before .loop .buffer) (c .before .loop .cursor)
     (rowBits (take (c .before .before .before .before .before .args .n) (cellsOf (c .before .before .before .before .before .args .row))))
 all-written c =
     let a = c .before .before .before .before .before .args in
@@ -113,16 +113,16 @@ same-length : tie.Need-same-length Inv-loop μ-loop
 same-length c = simp length-set (omega (arith, c .before .before .loop .inv .1 .same))
 
 returns : tie.Need-returns Inv-loop μ-loop
-returns c = laid-part _ (c .before .before .before .before .before .before .pre .2) (all-written (c .before)) (c .if1 .taken)
+returns c = packed-part _ (c .before .before .before .before .before .before .pre .2) (all-written (c .before)) (c .if1 .taken)
 
 same-length-2 : tie.Need-same-length-2 Inv-loop μ-loop
 same-length-2 c = omega (arith, c .before .before .loop .inv .1 .same)
 
 returns-2 : tie.Need-returns-2 Inv-loop μ-loop
-returns-2 c = laid-whole _ (c .before .before .before .before .before .before .pre .2) (all-written (c .before)) (c .if1 .left)
+returns-2 c = packed-whole _ (c .before .before .before .before .before .before .pre .2) (all-written (c .before)) (c .if1 .left)
 
-pub lay-spec : {M : Type 1} → statement M
-lay-spec =
+pub write-cells-spec : {M : Type 1} → statement M
+write-cells-spec =
     tie.close
     (tie.spec
     Inv-loop
