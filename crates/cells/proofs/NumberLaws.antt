@@ -5,8 +5,8 @@ use Prim.Native.Nat.{ℕ, zero, suc, _+_, _-_, _*_, _/_, _%_, _^_, _≤_, _<_}
 use native.Mathlib.Nat.{eq-of-mul-eq-mul-right, mul-right-comm, mul-mod-left, div-add-mod', mul-one, zero-mul, mul-assoc, mul-pos, mod-eq-of-lt, lt-of-lt-of-le, lt-of-le-of-lt, le-trans, mul-le-mul-right, mul-le-mul-left, le-div-iff-mul-le, le-add-right, eq-or-lt-of-le, le-of-suc-le-suc}
 use mathlib.Core.Logic.{inl, inr}
 use native.Mathlib.Omega.{arith}
-use mathlib.Core.Bool.{Bool, true, false, not, cond, _&&_, _||_}
-use lib.Dec.{T, eqb, ltb, leb, eqb→eq}
+use mathlib.Core.Bool.{Bool, true, false, cond, _&&_}
+use lib.Dec.{T, eqb, leb, eqb→eq}
 use lib.Pow.{pow-add, pow-pos, pow-mono, shl-lt, shr-lt, split}
 use lib.Ieee.{Float, nan, inf, fin, binary64, up, down, odd, ofFields, ofBits}
 use lib.Ieee.Fits.{eq→eqb, down-pos}
@@ -60,21 +60,17 @@ pub not-whole : (s : Bool) (a c : ℕ) → (a % c ≡ 0 → ⊥) → readFractio
 unfolding readFraction
 not-whole s a c h = rw (ne-eqb _ _ h)
 
+and-false : (t : Bool) → (t && false) ≡ false
+and-false true = refl
+and-false false = refl
+
 below-zero : (a c : ℕ) → (a ≡ 0 → ⊥) → readFraction true a c ≡ Unreadable
 unfolding readFraction
-below-zero a c h = rw (ne-eqb _ _ h) (by (eqb (a % c) 0))
-  where
-    by : (t : Bool) → cond (t && false && ltb (a / c) (2 ^ 34)) (Read (Whole (a / c))) Unreadable ≡ Unreadable
-    by true = refl
-    by false = refl
+below-zero a c h = rw (ne-eqb _ _ h, and-false)
 
 too-large : (s : Bool) (a c : ℕ) → 2 ^ 34 ≤ a / c → readFraction s a c ≡ Unreadable
 unfolding readFraction
-too-large s a c h = rw (le-ltb _ _ h) (by (eqb (a % c) 0 && (not s || eqb a 0)))
-  where
-    by : (t : Bool) → cond (t && false) (Read (Whole (a / c))) Unreadable ≡ Unreadable
-    by true = refl
-    by false = refl
+too-large s a c h = rw (le-ltb _ _ h, and-false)
 
 pub is-whole : (a c : ℕ) → a % c ≡ 0 → a / c < 2 ^ 34 → readFraction false a c ≡ Read (Whole (a / c))
 unfolding readFraction

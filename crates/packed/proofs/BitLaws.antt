@@ -20,7 +20,7 @@ use Rattle.packed.specs.Bits.{bits, digit, number, Bytes, bitsOf, bytesO
 pub length-bits : (k v : ℕ) → length (bits k v) ≡ k
 unfolding bits
 length-bits zero v = refl
-length-bits (suc k) v = ap suc (length-bits k v)
+length-bits (suc k) v = ap suc (length-bits k _)
 
 -- the high digits come first, then the low ones
 pub bits-split : (j k v : ℕ) → bits (j + k) v ≡ bits j (v / 2 ^ k) ++ bits k v

@@ -1,7 +1,9 @@
 -- `write_answer` meets its contract.
 -- Assumes nothing.
 use borrow.Author.Needs.{needs}
+use native.Mathlib.Omega.{arith}
 use mathlib.Core.Path.{ap, _∙_}
+use lib.ListN.{length}
 use borrow.Author.Tests.{eq-eqb, ne-eqb}
 use Rattle.cells.specs.HostAnswer.{answerBytes}
 use Rattle.cells.proofs.answer.write_answer.Statement.{statement}
@@ -12,7 +14,7 @@ use Rattle.cells.proofs.answer.host_answer.Reads as host-answer-reads
 use Rattle.cells.proofs.answer.put_answer.Reads as put-answer-reads
 
 returns : tie.Need-returns
-returns c = let t = ne-eqb _ _ (c .if1 .taken) in (rw t, rw t)
+returns c = let t = ne-eqb (length (c .before .before .args .out .now)) 24 (λ e. omega (arith, c .if1 .taken)) in (rw t, rw t)
 
 host-answer-requires : tie.Need-host-answer-requires
 host-answer-requires c κs = search needs

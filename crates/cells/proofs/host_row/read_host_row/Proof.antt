@@ -1,12 +1,14 @@
 -- `read_host_row` meets its contract.
 -- Assumes nothing.
 use borrow.Author.Needs.{needs}
+use native.Mathlib.Omega.{arith}
 use mathlib.Core.Path.{_≡_, sym, ap, _∙_, subst}
-use borrow.Author.Tests.{eq-eqb, ne-eqb}
+use borrow.Author.Tests.{eq-eqb}
 use Rattle.cells.specs.HostRow.{hostCellsAt, readHostRow}
 use Rattle.cells.specs.Reading.{readCells}
 use Rattle.cells.specs.Row.{cellCount}
 use Rattle.cells.proofs.ReadingLaws.{Says, says-refused}
+use Rattle.cells.proofs.ReadingMeaning.{another-length}
 use Rattle.cells.proofs.host_row.read_host_row.Statement.{statement}
 use Rattle.cells.proofs.host_row.read_host_row.Tie as tie
 use Rattle.cells.proofs.host_row.read_host_row.Reads as reads
@@ -22,7 +24,7 @@ refused-requires : tie.Need-refused-requires
 refused-requires c κs = search needs
 
 returns : tie.Need-returns
-returns c = says-refused _ _ _ (c .refused .ensures) (rw (ne-eqb _ _ (c .before .if1 .taken)))
+returns c = says-refused _ _ _ (c .refused .ensures) (another-length (c .before .before .before .args .bytes .now) (λ e. omega (arith, c .before .if1 .taken)))
 
 host-cells-requires : tie.Need-host-cells-requires
 host-cells-requires c κs = search needs

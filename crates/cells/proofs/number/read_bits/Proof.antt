@@ -19,13 +19,13 @@ returns : tie.Need-returns
 returns c = c .whole .ensures ∙ sym (zero-bits (c .before .before .args .bits) (c .before .if1 .taken))
 
 returns-2 : tie.Need-returns-2
-returns-2 c = sym (negative-bits (c .before .before .args .bits) (c .before .before .fits .bits .fits) (c .before .if1 .left) (c .if2 .taken))
+returns-2 c = sym (negative-bits (c .before .before .args .bits) (c .before .before .fits .bits .fits) (c .before .if1 .left) (omega (arith, c .if2 .taken)))
 
 returns-3 : tie.Need-returns-3
 returns-3 c = sym (small-bits (c .before .before .before .args .bits) (c .before .before .if1 .left) (c .before .if2 .left) (c .if3 .taken))
 
 returns-4 : tie.Need-returns-4
-returns-4 c = sym (large-bits (c .before .before .before .before .args .bits) (c .before .before .if2 .left) (c .if4 .taken))
+returns-4 c = sym (large-bits (c .before .before .before .before .args .bits) (c .before .before .if2 .left) (omega (arith, c .if4 .taken)))
 
 add-digits : tie.Need-add-digits
 add-digits c = search needs

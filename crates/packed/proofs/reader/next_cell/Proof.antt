@@ -37,7 +37,7 @@ shr-t10 c = search needs
 sub-t13 : tie.Need-sub-t13
 sub-t13 c =
     let t = c .before .before .before .take-in in
-    value-high (t .result) (t .ensures) (c .before .before .if1 .left) (c .before .if2 .left) (c .if3 .left)
+    omega (arith, value-high (t .result) (t .ensures) (c .before .before .if1 .left) (c .before .if2 .left) (c .if3 .left))
 
 shl-t15 : tie.Need-shl-t15
 shl-t15 c = search needs

@@ -77,7 +77,7 @@ refused-requires-2 c κs = search needs
 returns-2 : tie.Need-returns-2 Inv-loop μ-loop
 returns-2 c =
     let l = c .before .before in
-    refusal-answer _ _ _ _ (c .refused2 .ensures) (bad-padding (l .before .loop .inv) (l .loop-test .left) (c .before .if1 .taken))
+    refusal-answer _ _ _ _ (c .refused2 .ensures) (bad-padding (l .before .loop .inv) (l .loop-test .left) (λ z. omega (arith, c .before .if1 .taken)))
 
 sub-t31 : tie.Need-sub-t31 Inv-loop μ-loop
 sub-t31 c = omega (arith, c .before .before .loop .inv .reached .read)
