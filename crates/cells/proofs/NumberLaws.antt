@@ -5,7 +5,7 @@ use Prim.Native.Nat.{ℕ, zero, suc, _+_, _-_, _*_, _/_, _%_, _^_, _≤_, _<_}
 use native.Mathlib.Nat.{eq-of-mul-eq-mul-right, mul-right-comm, mul-mod-left, div-add-mod', mul-one, zero-mul, mul-assoc, mul-pos, mod-eq-of-lt, lt-of-lt-of-le, lt-of-le-of-lt, le-trans, mul-le-mul-right, mul-le-mul-left, le-div-iff-mul-le, le-add-right, eq-or-lt-of-le, le-of-suc-le-suc}
 use mathlib.Core.Logic.{inl, inr}
 use native.Mathlib.Omega.{arith}
-use mathlib.Core.Bool.{Bool, true, false, cond, _&&_}
+use mathlib.Core.Bool.{Bool, true, false, cond, and-false}
 use lib.Dec.{T, eqb, leb, eqb→eq}
 use lib.Pow.{pow-add, pow-pos, pow-mono, shl-lt, shr-lt, split}
 use lib.Ieee.{Float, nan, inf, fin, binary64, up, down, odd, ofFields, ofBits}
@@ -59,10 +59,6 @@ value-reads (fin t m e) s a c C h =
 pub not-whole : (s : Bool) (a c : ℕ) → (a % c ≡ 0 → ⊥) → readFraction s a c ≡ Unreadable
 unfolding readFraction
 not-whole s a c h = rw (ne-eqb _ _ h)
-
-and-false : (t : Bool) → (t && false) ≡ false
-and-false true = refl
-and-false false = refl
 
 below-zero : (a c : ℕ) → (a ≡ 0 → ⊥) → readFraction true a c ≡ Unreadable
 unfolding readFraction

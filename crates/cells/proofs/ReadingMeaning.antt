@@ -6,7 +6,7 @@ use mathlib.Core.Logic.{inl, inr, _↔_}
 use Prim.Native.Nat.{ℕ, _+_, _-_, _*_, _/_, _%_, _^_, _<_}
 use native.Mathlib.Nat.{eq-of-mul-eq-mul-right, mul-right-comm, mul-mod-left, mul-div-cancel, div-add-mod', mul-one, zero-mul}
 use native.Mathlib.Omega.{arith}
-use mathlib.Core.Bool.{Bool, true, false, not, cond, _&&_, _||_, Bool·beq}
+use mathlib.Core.Bool.{Bool, true, false, not, cond, _&&_, _||_, Bool·beq, true≢false}
 use mathlib.Core.List.{List, [], _∷_}
 use lib.Dec.{T, eqb, ltb, eqb→eq, ltb→lt}
 use lib.ListN.{length, getD}
@@ -30,16 +30,13 @@ use Rattle.cells.proofs.LowestLaws.{FailsAt, lowest-meaning}
 use Rattle.cells.proofs.NumberLaws.{same-bool, value-reads, is-whole}
 use Rattle.cells.proofs.ReadingLaws.{read-given, read-refused}
 
-true-false : true ≡ false → ⊥
-true-false h = subst T h tt
-
 -- the test x == y, where y has the value n
 equal-test : (s : Bool) (m : ℕ) (e : _) (y : Float) (n : ℕ) → HasValue y false n 1
     → eq (fin s m e) y ≡ (eqb (m * up e) (n * down e) && (not s || eqb (m * up e) 0))
 unfolding eq
 equal-test s m e nan n h = absurd h
 equal-test s m e (inf t) n h = absurd h
-equal-test s m e (fin true q d) n h = absurd (true-false (h .0))
+equal-test s m e (fin true q d) n h = absurd (true≢false (h .0))
 equal-test s m e (fin false q d) n h =
     let a = m * up e in
     let v : q * up d * down e ≡ n * down e * down d =

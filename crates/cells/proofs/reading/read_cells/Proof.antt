@@ -6,7 +6,7 @@ use mathlib.Core.Bool.{Bool, cond}
 use mathlib.Core.List.{List}
 use Prim.Native.Nat.{ℕ, _+_, _-_, _≤_, _<_}
 use native.Mathlib.Omega.{arith}
-use lib.ListN.{length, getD, take, drop, length-set, length-map}
+use lib.ListN.{length, getD, take, drop, length-set, length-map, List·getD-map}
 use Rattle.cells.specs.Lowest.{lowest}
 use Rattle.cells.specs.Reading.{readCell, isUnreadable, cellRead, lowestUnreadable}
 use Rattle.cells.specs.Row.{cellCount, rowOf}
@@ -16,7 +16,7 @@ use Rattle.cells.specs.declared.row.Cell.the-variants.{Blank}
 use Rattle.cells.specs.declared.row.HostCell.{HostCell}
 use Rattle.cells.specs.declared.row.HostCell.the-variants.{Blank as Empty}
 use Rattle.cells.specs.declared.row.Slot.{Slot}
-use Rattle.cells.proofs.FillLaws.{fill-step, fill-end, map-at}
+use Rattle.cells.proofs.FillLaws.{fill-step, fill-end}
 use Rattle.cells.proofs.LowestLaws.{lowest-step, lowest-end}
 use Rattle.cells.proofs.ReadingLaws.{asRead, read-given, read-refused, says-refused, says-row}
 use Rattle.cells.proofs.reading.read_cells.Statement.{statement}
@@ -40,13 +40,10 @@ search-on cells i r h e = lowest-step unreadable cells i (i + 1) Empty (isUnread
 wanted-length : (cells : List HostCell) → length (wanted cells) ≡ length cells
 wanted-length cells = length-map (asRead cells) (λ (cell : Cell). record { cell = cell }) ∙ length-map cells (λ (cell : HostCell). cellRead (readCell cell))
 
-wanted-at : (cells : List HostCell) (i : ℕ) (r : Reading) (d : Slot) → i < length cells → r ≡ readCell (getD cells i Empty)
-    → getD (wanted cells) i d ≡ record { cell = cellRead r }
-wanted-at cells i r d h e =
-    map-at (λ (cell : Cell). record { cell = cell }) (asRead cells) i Blank d
-    (let l = length-map cells (λ (cell : HostCell). cellRead (readCell cell)) in omega arith)
-    ∙ ap (λ (cell : Cell). record { cell = cell })
-    (map-at (λ (cell : HostCell). cellRead (readCell cell)) cells i Empty Blank h ∙ ap cellRead (sym e))
+wanted-at : (cells : List HostCell) (i : ℕ) (r : Reading) → r ≡ readCell (getD cells i Empty) → getD (wanted cells) i (record { cell = Blank }) ≡ record { cell = cellRead r }
+wanted-at cells i r e =
+    List·getD-map (λ (cell : Cell). record { cell = cell }) (asRead cells) i Blank
+    ∙ ap (λ (cell : Cell). record { cell = cell }) (List·getD-map (λ (cell : HostCell). cellRead (readCell cell)) cells i Empty ∙ ap cellRead (sym e))
 
 abbrev Inv-loop : tie.InvT-loop
 Inv-loop cells slots₀ i₀ slots i =
@@ -119,7 +116,7 @@ loop-again c =
       omega arith,
       length-set slots i _ ∙ l .loop .inv .1,
       fill-step slots (wanted cells) i _ (record { cell = Blank }) (omega arith) (omega (arith, wanted-length cells)) (l .loop .inv .2)
-          (wanted-at cells i _ _ inside told),
+          (wanted-at cells i _ told),
       l .loop .inv .3 ∙ search-on cells i _ inside told,
     )
 

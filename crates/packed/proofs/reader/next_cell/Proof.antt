@@ -29,7 +29,7 @@ returns-2 c =
 returns-3 : tie.Need-returns-3
 returns-3 c =
     let t = c .before .before .before .take-in in
-    reads-short (t .result) (t .ensures) (c .before .before .if1 .left) (c .before .if2 .left) (c .if3 .taken)
+    reads-short (t .result) (t .ensures) (c .before .before .if1 .left) (c .before .if2 .left) (omega (arith, c .if3 .taken))
 
 shr-t10 : tie.Need-shr-t10
 shr-t10 c = search needs
