@@ -76,3 +76,17 @@ module _ {A : Type 0} (fails : ℕ → A → Bool) where
               below = below e k (r .below);
             },
           )
+
+  -- where none is found, every element passes
+  pub lowest-none : (n : ℕ) (l : List A) → 0 < n → lowest fails n l ≡ 0 → (k : ℕ) (d : A) → k < length l → fails (n + k) (getD l k d) ≡ false
+  lowest-none n l pos e k d h = by (lowest-meaning n l)
+    where
+      by : Passes n l ⊎ ((j : ℕ) × FailsAt n l j) → fails (n + k) (getD l k d) ≡ false
+      by (inl r) = r .all k d h
+      by (inr (j, r)) = let q : n + j ≡ 0 = sym (r .found) ∙ e in absurd (omega arith)
+
+  -- where every element passes, none is found
+  pub lowest-of-passing : ((n : ℕ) (x : A) → fails n x ≡ false) → (n : ℕ) (l : List A) → lowest fails n l ≡ 0
+  unfolding lowest
+  lowest-of-passing pass n [] = refl
+  lowest-of-passing pass n (x ∷ l) = rw (pass n x) (lowest-of-passing pass (n + 1) l)

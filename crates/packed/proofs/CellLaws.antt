@@ -7,35 +7,30 @@ use native.Mathlib.Numerals.{add-one}
 use native.Mathlib.Omega.{arith}
 use mathlib.Core.List.{List, [], _∷_, _++_, append-assoc, append-nil}
 use mathlib.Core.Bool.{Bool, true, false, not}
-use lib.ListN.{length, getD, take, drop, replicate, length-append, length-map, length-replicate, take-append-drop, List·getD-map}
+use lib.ListN.{length, getD, take, drop, replicate, length-append, length-replicate, take-append-drop}
 use lib.Seq.{take-suc, length-take-le, getD-take}
 use lib.Dec.{leb, ltb}
 use borrow.Author.Tests.{ltb-true, ltb-false, le-leb, lt-leb, not-false}
 use Rattle.cells.specs.Row.{cellCount, valueBits, cellsOf}
 use Rattle.cells.specs.declared.row.Cell.{Cell}
 use Rattle.cells.specs.declared.row.Cell.the-variants.{Blank, Whole}
-use Rattle.cells.specs.declared.row.Slot.{Slot}
 use Rattle.cells.specs.declared.row.Row.{Row}
 use Rattle.cells.proofs.LowestLaws.{Passes, FailsAt, lowest-meaning}
+use Rattle.cells.proofs.RowLaws.{cell-at, length-cells}
 use Rattle.packed.specs.Bits.{Bytes, bitsOf, bytesOf}
 use Rattle.packed.specs.Packing.{cellBits, rowBits, bytesFor, packed, tooWide, lowestWide}
 use Rattle.packed.proofs.BitLaws.{length-bits, length-bitsOf, length-bytesOf, bytesOf-filled}
 
 -- ---- the first n cells of a row
 
-module _ (row : Row) (whole : length (row .cells) ≡ cellCount) where
-  -- all of them are 22
-  pub length-cells : length (cellsOf row) ≡ cellCount
-  length-cells = length-map (row .cells) (λ (slot : Slot). slot .cell) ∙ whole
-
-  -- the first n are n
-  pub length-first : (n : ℕ) → n ≤ cellCount → length (take n (cellsOf row)) ≡ n
-  length-first n h = let e = length-cells in length-take-le n (cellsOf row) (omega arith)
+-- they are n
+pub length-first : (row : Row) → length (row .cells) ≡ cellCount → (n : ℕ) → n ≤ cellCount → length (take n (cellsOf row)) ≡ n
+length-first row whole n h = let e = length-cells row whole in length-take-le n (cellsOf row) (omega arith)
 
 -- the cell at a place among them is the one in the slot there
 pub first-at : (row : Row) (n i : ℕ) → i < n → getD (take n (cellsOf row)) i Blank ≡ getD (row .cells) i (record { cell = Blank }) .cell
 first-at row n i h =
-    getD-take n (cellsOf row) i Blank h ∙ List·getD-map (λ (slot : Slot). slot .cell) (row .cells) i (record { cell = Blank })
+    getD-take n (cellsOf row) i Blank h ∙ cell-at row i
 
 -- ---- the bits of cells
 

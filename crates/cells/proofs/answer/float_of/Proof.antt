@@ -5,8 +5,6 @@ use mathlib.Core.Path.{refl}
 use Rattle.cells.proofs.AnswerLaws.{whole-not-nan}
 use Rattle.cells.proofs.answer.float_of.Statement.{statement}
 use Rattle.cells.proofs.answer.float_of.Tie as tie
-use Rattle.cells.proofs.answer.float_of.Reads as reads
-use Rattle.cells.proofs.answer.float_of.Lts as lts
 
 int-to-float-result : tie.Need-int-to-float-result
 int-to-float-result c = search needs

@@ -3,9 +3,6 @@
 use borrow.Author.Needs.{needs}
 use Rattle.cells.proofs.answer.host_answer.Statement.{statement}
 use Rattle.cells.proofs.answer.host_answer.Tie as tie
-use Rattle.cells.proofs.answer.host_answer.Reads as reads
-use Rattle.cells.proofs.answer.host_answer.Lts as lts
-use Rattle.cells.proofs.answer.float_of.Reads as float-of-reads
 
 float-of-requires : tie.Need-float-of-requires
 float-of-requires c κs = search needs

@@ -4,9 +4,6 @@ use borrow.Author.Needs.{needs}
 use Rattle.cells.proofs.AnswerLaws.{three-floats}
 use Rattle.cells.proofs.answer.put_answer.Statement.{statement}
 use Rattle.cells.proofs.answer.put_answer.Tie as tie
-use Rattle.cells.proofs.answer.put_answer.Reads as reads
-use Rattle.cells.proofs.answer.put_answer.Lts as lts
-use Rattle.cells.proofs.answer.put_float.Reads as put-float-reads
 
 sub-put-float : tie.Need-sub-put-float
 sub-put-float c = search needs

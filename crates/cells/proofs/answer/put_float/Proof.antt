@@ -7,9 +7,6 @@ use lib.Ieee.{binary64, toBits}
 use Rattle.cells.specs.HostAnswer.{wordBytes}
 use Rattle.cells.proofs.answer.put_float.Statement.{statement}
 use Rattle.cells.proofs.answer.put_float.Tie as tie
-use Rattle.cells.proofs.answer.put_float.Reads as reads
-use Rattle.cells.proofs.answer.put_float.Lts as lts
-use Rattle.cells.proofs.answer.put_word.Reads as put-word-reads
 
 float-to-bits-put-word : tie.Need-float-to-bits-put-word
 float-to-bits-put-word c = search needs

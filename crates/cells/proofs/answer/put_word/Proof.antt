@@ -12,8 +12,6 @@ use Rattle.cells.specs.HostAnswer.{wordBytes}
 use Rattle.cells.proofs.AnswerLaws.{word-step}
 use Rattle.cells.proofs.answer.put_word.Statement.{statement}
 use Rattle.cells.proofs.answer.put_word.Tie as tie
-use Rattle.cells.proofs.answer.put_word.Reads as reads
-use Rattle.cells.proofs.answer.put_word.Lts as lts
 
 abbrev Inv-loop : tie.InvT-loop
 Inv-loop out₀ word rest₀ i₀ out rest i =

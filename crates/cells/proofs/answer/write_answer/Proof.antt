@@ -8,10 +8,6 @@ use borrow.Author.Tests.{eq-eqb, ne-eqb}
 use Rattle.cells.specs.HostAnswer.{answerBytes}
 use Rattle.cells.proofs.answer.write_answer.Statement.{statement}
 use Rattle.cells.proofs.answer.write_answer.Tie as tie
-use Rattle.cells.proofs.answer.write_answer.Reads as reads
-use Rattle.cells.proofs.answer.write_answer.Lts as lts
-use Rattle.cells.proofs.answer.host_answer.Reads as host-answer-reads
-use Rattle.cells.proofs.answer.put_answer.Reads as put-answer-reads
 
 returns : tie.Need-returns
 returns c = let t = ne-eqb (length (c .before .before .args .out .now)) 24 (λ e. omega (arith, c .if1 .taken)) in (rw t, rw t)

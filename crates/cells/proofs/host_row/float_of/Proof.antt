@@ -10,8 +10,6 @@ use borrow.Author.Tests.{le-ltb}
 use Rattle.cells.proofs.HostRowLaws.{zero-by-zero, nan-pattern}
 use Rattle.cells.proofs.host_row.float_of.Statement.{statement}
 use Rattle.cells.proofs.host_row.float_of.Tie as tie
-use Rattle.cells.proofs.host_row.float_of.Reads as reads
-use Rattle.cells.proofs.host_row.float_of.Lts as lts
 
 returns : tie.Need-returns
 returns c = zero-by-zero ∙ sym (nan-pattern (c .before .args .bits) (c .if1 .taken))

@@ -9,10 +9,6 @@ use Rattle.cells.specs.declared.row.HostCell.the-variants.{Number}
 use Rattle.cells.proofs.HostRowLaws.{zero-by-zero}
 use Rattle.cells.proofs.host_row.host_cell_at.Statement.{statement}
 use Rattle.cells.proofs.host_row.host_cell_at.Tie as tie
-use Rattle.cells.proofs.host_row.host_cell_at.Reads as reads
-use Rattle.cells.proofs.host_row.host_cell_at.Lts as lts
-use Rattle.cells.proofs.host_row.float_of.Reads as float-of-reads
-use Rattle.cells.proofs.host_row.word_at.Reads as word-at-reads
 
 shared-slice-read-filled : tie.Need-shared-slice-read-filled
 shared-slice-read-filled c = search needs

@@ -13,9 +13,6 @@ use Rattle.cells.proofs.FillLaws.{fill-step, fill-end}
 use Rattle.cells.proofs.HostRowLaws.{host-cells-length, host-cells-at}
 use Rattle.cells.proofs.host_row.host_cells.Statement.{statement}
 use Rattle.cells.proofs.host_row.host_cells.Tie as tie
-use Rattle.cells.proofs.host_row.host_cells.Reads as reads
-use Rattle.cells.proofs.host_row.host_cells.Lts as lts
-use Rattle.cells.proofs.host_row.host_cell_at.Reads as host-cell-at-reads
 
 abbrev Inv-loop : tie.InvT-loop
 Inv-loop bytes cells₀ i₀ cells i = (i ≤ cellCount) × (length cells ≡ cellCount) × (take i cells ≡ take i (hostCellsAt cellCount bytes 0))

@@ -11,11 +11,6 @@ use Rattle.cells.proofs.ReadingLaws.{Says, says-refused}
 use Rattle.cells.proofs.ReadingMeaning.{another-length}
 use Rattle.cells.proofs.host_row.read_host_row.Statement.{statement}
 use Rattle.cells.proofs.host_row.read_host_row.Tie as tie
-use Rattle.cells.proofs.host_row.read_host_row.Reads as reads
-use Rattle.cells.proofs.host_row.read_host_row.Lts as lts
-use Rattle.cells.proofs.host_row.host_cells.Reads as host-cells-reads
-use Rattle.cells.proofs.reading.read_cells.Reads as read-cells-reads
-use Rattle.cells.proofs.reading.refused.Reads as refused-reads
 
 mul-if1 : tie.Need-mul-if1
 mul-if1 c = search needs

@@ -8,9 +8,6 @@ use native.Mathlib.Omega.{arith}
 use Rattle.cells.proofs.NumberLaws.{zero-bits, negative-bits, small-bits, large-bits, middle-bits, not-whole, is-whole, back-whole, back-part, quotient-lt}
 use Rattle.cells.proofs.number.read_bits.Statement.{statement}
 use Rattle.cells.proofs.number.read_bits.Tie as tie
-use Rattle.cells.proofs.number.read_bits.Reads as reads
-use Rattle.cells.proofs.number.read_bits.Lts as lts
-use Rattle.cells.proofs.number.whole.Reads as whole-reads
 
 whole-requires : tie.Need-whole-requires
 whole-requires c κs = search needs

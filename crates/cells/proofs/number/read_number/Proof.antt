@@ -11,9 +11,6 @@ use Rattle.cells.specs.Number.{readNumber}
 use Rattle.cells.specs.declared.number.Reading.the-variants.{Unreadable}
 use Rattle.cells.proofs.number.read_number.Statement.{statement}
 use Rattle.cells.proofs.number.read_number.Tie as tie
-use Rattle.cells.proofs.number.read_number.Reads as reads
-use Rattle.cells.proofs.number.read_number.Lts as lts
-use Rattle.cells.proofs.number.read_bits.Reads as read-bits-reads
 
 nan-reads : (x : Float) → ne x x ≡ true → Unreadable ≡ readNumber x
 unfolding readNumber

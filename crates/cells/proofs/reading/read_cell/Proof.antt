@@ -3,9 +3,6 @@
 use borrow.Author.Needs.{needs}
 use Rattle.cells.proofs.reading.read_cell.Statement.{statement}
 use Rattle.cells.proofs.reading.read_cell.Tie as tie
-use Rattle.cells.proofs.reading.read_cell.Reads as reads
-use Rattle.cells.proofs.reading.read_cell.Lts as lts
-use Rattle.cells.proofs.number.read_number.Reads as read-number-reads
 
 enum-told : tie.Need-enum-told
 enum-told c = search needs

@@ -22,9 +22,6 @@ use Rattle.cells.proofs.ReadingLaws.{asRead, read-given, read-refused, 
 use Rattle.cells.proofs.reading.read_cells.Statement.{statement}
 use Rattle.cells.proofs.reading.read_cells.Tie as tie
 use Rattle.cells.proofs.reading.read_cells.Reads as reads
-use Rattle.cells.proofs.reading.read_cells.Lts as lts
-use Rattle.cells.proofs.reading.read_cell.Reads as read-cell-reads
-use Rattle.cells.proofs.reading.refused.Reads as refused-reads
 
 abbrev unreadable : ℕ → HostCell → Bool
 unreadable n cell = isUnreadable (readCell cell)

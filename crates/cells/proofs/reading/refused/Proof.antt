@@ -3,9 +3,6 @@
 use borrow.Author.Needs.{needs}
 use Rattle.cells.proofs.reading.refused.Statement.{statement}
 use Rattle.cells.proofs.reading.refused.Tie as tie
-use Rattle.cells.proofs.reading.refused.Reads as reads
-use Rattle.cells.proofs.reading.refused.Lts as lts
-use Rattle.cells.proofs.row.blank_row.Reads as blank-row-reads
 
 blank-row-requires : tie.Need-blank-row-requires
 blank-row-requires c κs = search needs

@@ -6,7 +6,7 @@ use borrow.Author.Needs.{needs}
 use lib.ListN.{length-map}
 use lib.Seq.{take-all}
 use Rattle.cells.specs.Row.{cellCount, cellsOf}
-use Rattle.packed.proofs.CellLaws.{length-cells}
+use Rattle.cells.proofs.RowLaws.{length-cells}
 use Rattle.packed.proofs.pack.pack_row.Statement.{statement}
 use Rattle.packed.proofs.pack.pack_row.Tie as tie
 
