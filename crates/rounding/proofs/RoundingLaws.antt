@@ -1,8 +1,9 @@
 -- The effect of rounding, by any divisor above zero.
 -- Assumes nothing.
-use Prim.Native.Nat.{ℕ, _+_, _-_, _*_, _/_, _≤_, _<_}
-use native.Mathlib.Nat.{le-div-iff-mul-le, div-lt-iff-lt-mul, div-mul-le-self, lt-div-mul-add}
+use Prim.Native.Nat.{ℕ, zero, suc, _+_, _-_, _*_, _/_, _≤_, _<_}
+use native.Mathlib.Nat.{div-zero, mul-le-mul-left, le-div-iff-mul-le, div-lt-iff-lt-mul, div-mul-le-self, lt-div-mul-add}
 use native.Mathlib.Omega.{arith}
+use mathlib.Core.Path.{_≡_}
 use Rattle.rounding.specs.Rounding.{up}
 
 -- Rounding down gains nothing and loses less than one unit.
@@ -25,3 +26,13 @@ lt-up {n} {d} {k} pos h =
     let g : (k + 1) * d ≤ n + (d - 1) = omega arith in
     let r = le-div-iff-mul-le pos .1 g in
     omega arith
+
+-- Rounding up keeps the order of numerators and turns that of divisors.
+pub up-more : (d : ℕ) {n n′ : ℕ} → n ≤ n′ → up n d ≤ up n′ d
+up-more zero {n} {n′} le = let none : up n 0 ≡ 0 = div-zero (n + (0 - 1)) in omega arith
+up-more (suc d) {n} {n′} le =
+    let pos : 0 < suc d = omega arith in
+    le-div-iff-mul-le pos .1 (omega (arith, div-mul-le-self (n + (suc d - 1)) (suc d)))
+
+pub up-less : (n : ℕ) {d d′ : ℕ} → 0 < d → d ≤ d′ → up n d′ ≤ up n d
+up-less n {d} {d′} pos le = up-le (omega arith) (omega (arith, rounding-up n d pos .0, mul-le-mul-left (up n d) le))

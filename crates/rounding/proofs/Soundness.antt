@@ -6,7 +6,7 @@ use native.Mathlib.Omega.{arith}
 use Rattle.rounding.specs.Rounding.{up}
 use Rattle.rounding.specs.Fraction.{Fraction, whole, scaled, _≼_, _≺_, RoundsUpTo}
 use Rattle.rounding.specs.Utilisation.{utilisation}
-use Rattle.rounding.proofs.RoundingLaws.{rounding-up}
+use Rattle.rounding.proofs.RoundingLaws.{rounding-up, up-more}
 use Rattle.rounding.proofs.Near.{Near}
 
 -- The utilisation is at most one exactly where the whole force is at most the rounded capacity.
@@ -20,6 +20,10 @@ module _ (N : ℕ) {c : ℕ} (pos : 0 < c) where
   fail-above h =
       let u : 1000001 ≤ up (1000000 * N) c = omega arith in
       omega (arith, rounding-up (1000000 * N) c pos, mul-le-mul-left c u)
+
+-- A greater force has no smaller utilisation.
+pub utilisation-more : (c : ℕ) {N N′ : ℕ} → N ≤ N′ → utilisation N c ≤ utilisation N′ c
+utilisation-more c {N} {N′} le = let more : up (1000000 * N) c ≤ up (1000000 * N′) c = up-more c (omega arith) in omega arith
 
 -- A force that is at most the rounded capacity is at most the exact one.
 pub near-pass : {m f g c : ℕ} {x : Fraction} (force : Fraction) → Near m f g c x → force ≼ whole c → force ≼ x

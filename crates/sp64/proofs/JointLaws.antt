@@ -124,7 +124,7 @@ pub columns-exist : (n r : ℕ) → 0 < r → LeastColumns n r (columns n r)
 columns-exist n r pos = record { holds = omega (arith, rounding-up n r pos .0); least = λ k h. up-le pos h }
 
 -- The joint's length grows with its columns, and these with the count.
-length-grows : (d : ℕ) {m n : ℕ} → m ≤ n → lengthOf d m ≤ lengthOf d n
+pub length-grows : (d : ℕ) {m n : ℕ} → m ≤ n → lengthOf d m ≤ lengthOf d n
 length-grows d le = mul-le-mul-left (7 * d) (omega arith)
 
 -- Check 4: what passes rounded holds unrounded, and what fails rounded fails unrounded with N times k thousandths, for every k from 1003.

@@ -7,3 +7,4 @@ pub mod JointLaws
 pub mod YesNoChecks
 pub mod Checks
 pub mod Denominators
+pub mod ForceLaws

@@ -1,9 +1,6 @@
 use borrow.Author.Needs.{needs}
 use Rattle.sp64.proofs.tables.table_strength.Statement.{statement}
 use Rattle.sp64.proofs.tables.table_strength.Tie as tie
-use Rattle.sp64.proofs.tables.table_strength.Reads as reads
-use Rattle.sp64.proofs.tables.table_strength.Lts as lts
-use Rattle.sp64.proofs.tables.by_grade.Reads as by-grade-reads
 
 enum-told : tie.Need-enum-told
 enum-told c = search needs
