@@ -1,0 +1,221 @@
+-- What acceptance gives: every cell that the kind fills lies in its range, and every code is known.
+-- Assumes nothing.
+use Prim.Native.Nat.{ℕ, _+_, _-_, _≤_, _<_}
+use native.Mathlib.Omega.{arith}
+use mathlib.Core.Path.{_≡_, refl, sym, ap, _∙_}
+use mathlib.Core.Bool.{Bool, true, false, not, cond, _&&_, Bool·beq, and-false}
+use mathlib.Core.List.{List}
+use borrow.Author.Tests.{leb-true, eqb-true, ne-eqb}
+use lib.Dec.{leb, eqb, lit<}
+use lib.ListN.{length, getD, List·getD-map}
+use Rattle.rounding.specs.Range.{In}
+use Rattle.cells.specs.Refusal.{Result, gives, refuses}
+use Rattle.cells.specs.Row.{cellCount}
+use Rattle.cells.specs.declared.row.Cell.{Cell}
+use Rattle.cells.specs.declared.row.Cell.the-variants.{Blank, Whole}
+use Rattle.cells.proofs.LowestLaws.{lowest-none, lowest-of-passing}
+use Rattle.sp64.specs.Joint.{JointRanges}
+use Rattle.sp64.specs.Tables.{slendernessLimit}
+use Rattle.sp64.proofs.StrengthLaws.{material-known}
+use Rattle.sp64.proofs.TableLaws.{limit-in}
+use Rattle.member.specs.Acceptance.{breaks, lowestThat, isBegun, unlessRefused, acceptKind, acceptCode, acceptFirst, accept}
+use Rattle.member.specs.Cells.{filled, valueOf, within, wanted, optional, knownCode, compressed, ranges, inRange}
+use Rattle.member.specs.Kind.{kindOf}
+use Rattle.member.specs.Member.{valuesOf, memberOf, jointOf}
+use Rattle.member.specs.Ranges.{Sized, Braced, RangesOf}
+use Rattle.member.specs.declared.rule.Rule.{Rule}
+use Rattle.member.specs.declared.rule.Rule.the-variants.{Begin, Fill, Code, Range}
+use Rattle.member.specs.declared.kind.Kind.{Kind}
+use Rattle.member.specs.declared.kind.Kind.the-variants.{Tension, Bending, Compression, CompressionBending, TensionBending}
+use Rattle.member.specs.declared.kind.KindCode.{KindCode}
+use Rattle.member.specs.declared.kind.KindCode.the-variants.{Known, Unknown}
+use Rattle.member.specs.declared.member.Member.{Member}
+
+-- a row in which no cell breaks a rule
+pub record Accepted (kind : Kind) (begun : Bool) (cells : List Cell) : Type 0 where
+  pub fill : lowestThat Fill kind begun cells ≡ 0
+  pub code : lowestThat Code kind begun cells ≡ 0
+  pub range : lowestThat Range kind begun cells ≡ 0
+
+-- truth values: what a cell that breaks no rule says
+filled-as : (f w : Bool) → w ≡ true → not (Bool·beq f w) ≡ false → f ≡ true
+filled-as true true e h = refl
+filled-as false true e h = sym h
+filled-as true false e h = refl
+filled-as false false e h = e
+
+passes-test : (f t : Bool) → f ≡ true → f && not t ≡ false → t ≡ true
+passes-test true true e h = refl
+passes-test true false e h = sym h
+passes-test false true e h = refl
+passes-test false false e h = e
+
+both-true : (x y : Bool) → x && y ≡ true → (x ≡ true) × (y ≡ true)
+both-true true true e = (refl, refl)
+both-true true false e = (refl, e)
+both-true false true e = (e, refl)
+both-true false false e = (e, e)
+
+same-as-true : (x : Bool) → Bool·beq x true ≡ true → x ≡ true
+same-as-true true e = refl
+same-as-true false e = e
+
+module _ (kind : Kind) (begun : Bool) (cells : List Cell) (whole : length cells ≡ cellCount) (ok : Accepted kind begun cells) where
+  -- no cell breaks a rule
+  unbroken : (rule : Rule) → lowestThat rule kind begun cells ≡ 0 → (k : ℕ) → k < cellCount → breaks rule kind begun (1 + k) (getD cells k Blank) ≡ false
+  unfolding lowestThat
+  unbroken rule e k h = lowest-none (breaks rule kind begun) 1 cells (lit< tt) e k Blank (omega arith)
+
+  -- a cell that the kind fills is filled
+  filled-at : (k : ℕ) → k < cellCount → wanted kind begun (1 + k) ≡ true → filled (getD cells k Blank) ≡ true
+  filled-at k h w = filled-as _ _ w (unbroken Fill (ok .fill) k h)
+
+  value-at : (k : ℕ) → getD (valuesOf cells) k 0 ≡ valueOf (getD cells k Blank)
+  value-at k = List·getD-map valueOf cells k Blank
+
+  -- its value is in its range
+  pub cell-in : (k : ℕ) → k < cellCount → wanted kind begun (1 + k) ≡ true → In (getD ranges k (0, 0) .0) (getD ranges k (0, 0) .1) (getD (valuesOf cells) k 0)
+  cell-in k h w =
+      let here : inRange (1 + k) (valueOf (getD cells k Blank)) ≡ true = passes-test _ _ (filled-at k h w) (unbroken Range (ok .range) k h) in
+      let at : k ≡ 1 + k - 1 = omega arith in
+      let inside = ap (λ (i : ℕ). within (getD ranges i (0, 0) .0) (getD ranges i (0, 0) .1) (valueOf (getD cells k Blank))) at ∙ here in
+      let b = both-true _ _ inside in
+      rw (value-at k) (record { low = leb-true _ _ (b .0); high = leb-true _ _ (b .1) })
+
+  -- its code is known
+  pub code-known : (k : ℕ) → k < cellCount → wanted kind begun (1 + k) ≡ true → knownCode kind (1 + k) (getD (valuesOf cells) k 0) ≡ true
+  code-known k h w = rw (value-at k) (passes-test _ _ (filled-at k h w) (unbroken Code (ok .code) k h))
+
+-- the member of a row in which no cell breaks a rule
+module _ (kind : Kind) (begun : Bool) (cells : List Cell) (whole : length cells ≡ cellCount) (ok : Accepted kind begun cells) where
+  abbrev here : Member
+  here = memberOf kind begun (valuesOf cells)
+
+  sized : (wanted kind begun 2 ≡ true) × (wanted kind begun 3 ≡ true) × (wanted kind begun 5 ≡ true) × (wanted kind begun 6 ≡ true) × (wanted kind begun 7 ≡ true) → Sized here
+  sized w =
+      record {
+        material =
+            material-known (getD (valuesOf cells) 1 0) (getD (valuesOf cells) 2 0) (getD (valuesOf cells) 3 0)
+            (leb-true _ _ (code-known kind begun cells whole ok 1 (lit< tt) (w .0)))
+            (leb-true _ _ (code-known kind begun cells whole ok 2 (lit< tt) (w .1)))
+            (cell-in kind begun cells whole ok 4 (lit< tt) (w .2));
+        section = record { width = cell-in kind begun cells whole ok 5 (lit< tt) (w .3); height = cell-in kind begun cells whole ok 6 (lit< tt) (w .4) };
+      }
+
+  row-known : wanted kind begun 13 ≡ true → (leb 1 (slendernessLimit (here .table16)) ≡ true) × (Bool·beq (leb (here .table16) 3) (compressed kind) ≡ true)
+  row-known w = both-true _ _ (code-known kind begun cells whole ok 12 (lit< tt) w)
+
+  braced : (wanted kind begun 11 ≡ true) × (wanted kind begun 12 ≡ true) × (wanted kind begun 13 ≡ true) → Braced here
+  braced w =
+      record {
+        lh = cell-in kind begun cells whole ok 10 (lit< tt) (w .0);
+        lb = cell-in kind begun cells whole ok 11 (lit< tt) (w .1);
+        limit = limit-in (here .table16) (leb-true _ _ (row-known (w .2) .0));
+      }
+
+  -- rows 1 to 3 of Table 16 for kinds 3 and 4
+  row-low : wanted kind begun 13 ≡ true → compressed kind ≡ true → here .table16 ≤ 3
+  row-low w e =
+      let same = ap (λ (t : Bool). Bool·beq (leb (here .table16) 3) t) (sym e) ∙ row-known w .1 in
+      leb-true _ _ (same-as-true _ same)
+
+-- the joint of a row that has begun one
+joint-in : (cells : List Cell) → length cells ≡ cellCount → Accepted Tension true cells → JointRanges (jointOf (valuesOf cells))
+joint-in cells whole ok =
+    let at = cell-in Tension true cells whole ok in
+    record {
+      side = at 13 (lit< tt) refl;
+      diameter = at 14 (lit< tt) refl;
+      across = at 15 (lit< tt) refl;
+      available = at 16 (lit< tt) refl;
+      kc = at 17 (lit< tt) refl;
+      ka = at 18 (lit< tt) refl;
+      kb = at 19 (lit< tt) refl;
+      ke = at 20 (lit< tt) refl;
+      km = at 21 (lit< tt) refl;
+    }
+
+-- a kind without optional cells begins none
+none-begun : (kind : Kind) (cells : List Cell) → ((n : ℕ) → optional kind n ≡ false) → isBegun kind cells ≡ false
+unfolding lowestThat
+none-begun kind cells none =
+    let pass : (n : ℕ) (cell : Cell) → breaks Begin kind false n cell ≡ false = λ n cell. rw (none n) (and-false (filled cell)) in
+    rw (lowest-of-passing (breaks Begin kind false) pass 1 cells)
+
+-- the ranges that the member of an accepted row keeps
+pub accepted-ranges : (kind : Kind) (cells : List Cell) {begun : Bool} → length cells ≡ cellCount → begun ≡ isBegun kind cells → Accepted kind begun cells → RangesOf kind (memberOf kind begun (valuesOf cells))
+accepted-ranges Tension cells {begun} whole is ok = (
+  sized Tension begun cells whole ok (refl, refl, refl, refl, refl),
+  braced Tension begun cells whole ok (refl, refl, refl),
+  cell-in Tension begun cells whole ok 7 (lit< tt) refl,
+  λ e. joint-in cells whole (rw e at ok),
+)
+accepted-ranges Bending cells whole is ok =
+    (sized Bending _ cells whole ok (refl, refl, refl, refl, refl), is ∙ none-begun Bending cells (λ n. refl))
+accepted-ranges Compression cells whole is ok = (
+  sized Compression _ cells whole ok (refl, refl, refl, refl, refl),
+  braced Compression _ cells whole ok (refl, refl, refl),
+  row-low Compression _ cells whole ok refl refl,
+  is ∙ none-begun Compression cells (λ n. refl),
+)
+accepted-ranges CompressionBending cells whole is ok = (
+  sized CompressionBending _ cells whole ok (refl, refl, refl, refl, refl),
+  braced CompressionBending _ cells whole ok (refl, refl, refl),
+  row-low CompressionBending _ cells whole ok refl refl,
+  cell-in CompressionBending _ cells whole ok 7 (lit< tt) refl,
+  cell-in CompressionBending _ cells whole ok 8 (lit< tt) refl,
+  is ∙ none-begun CompressionBending cells (λ n. refl),
+)
+accepted-ranges TensionBending cells whole is ok = (
+  sized TensionBending _ cells whole ok (refl, refl, refl, refl, refl),
+  braced TensionBending _ cells whole ok (refl, refl, refl),
+  is ∙ none-begun TensionBending cells (λ n. refl),
+)
+
+-- what acceptance comes to, by the first rule that a cell breaks
+module _ (kind : Kind) (cells : List Cell) {begun : Bool} (is : begun ≡ isBegun kind cells) where
+  pub fill-refused : {n : ℕ} → n ≡ lowestThat Fill kind begun cells → (n ≡ 0 → ⊥) → acceptKind kind cells ≡ refuses 2 n
+  unfolding acceptKind
+  fill-refused e some = rw (← is, ← e, ne-eqb _ _ some)
+
+  pub code-refused : {n : ℕ} → lowestThat Fill kind begun cells ≡ 0 → n ≡ lowestThat Code kind begun cells → (n ≡ 0 → ⊥) → acceptKind kind cells ≡ refuses 3 n
+  unfolding acceptKind
+  code-refused f e some = rw (← is, f, ← e, ne-eqb _ _ some)
+
+  pub range-refused : {n : ℕ} → lowestThat Fill kind begun cells ≡ 0 → lowestThat Code kind begun cells ≡ 0 → n ≡ lowestThat Range kind begun cells → (n ≡ 0 → ⊥) → acceptKind kind cells ≡ refuses 4 n
+  unfolding acceptKind
+  range-refused f c e some = rw (← is, f, c, ← e, ne-eqb _ _ some)
+
+  pub none-refused : Accepted kind begun cells → acceptKind kind cells ≡ gives (memberOf kind begun (valuesOf cells))
+  unfolding acceptKind
+  none-refused ok = rw (← is, ok .fill, ok .code, ok .range)
+
+-- what a result of acceptance promises: a member that keeps its ranges
+abbrev Kept : Result Member → Type 0
+Kept (gives m) = RangesOf (m .kind) m
+Kept (refuses number cell) = Unit
+
+kept-unless : (number cell : ℕ) (rest : Result Member) → (cell ≡ 0 → Kept rest) → Kept (unlessRefused number cell rest)
+kept-unless number cell rest keep = by (eqb cell 0) refl
+  where
+    by : (t : Bool) → eqb cell 0 ≡ t → Kept (cond t rest (refuses number cell))
+    by true e = keep (eqb-true _ _ e)
+    by false e = tt
+
+kept-kind : (kind : Kind) (cells : List Cell) → length cells ≡ cellCount → Kept (acceptKind kind cells)
+unfolding acceptKind
+kept-kind kind cells whole =
+    kept-unless 2 _ _
+    (λ f. kept-unless 3 _ _ (λ c. kept-unless 4 _ _ (λ r. accepted-ranges kind cells whole refl (record { fill = f; code = c; range = r }))))
+
+kept-code : (code : KindCode) (cells : List Cell) → length cells ≡ cellCount → Kept (acceptCode code cells)
+kept-code Unknown cells whole = tt
+kept-code (Known kind) cells whole = kept-kind kind cells whole
+
+kept-first : (first : Cell) (cells : List Cell) → length cells ≡ cellCount → Kept (acceptFirst first cells)
+kept-first Blank cells whole = tt
+kept-first (Whole code) cells whole = kept-code (kindOf code) cells whole
+
+-- the member that acceptance gives keeps the ranges of its kind
+pub accept-ranges : (cells : List Cell) (m : Member) → length cells ≡ cellCount → accept cells ≡ gives m → RangesOf (m .kind) m
+accept-ranges cells m whole e = rw e at (kept-first (getD cells 0 Blank) cells whole)

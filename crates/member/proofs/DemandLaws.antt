@@ -1,0 +1,201 @@
+-- Demand 3 of the verdict, from what the checks of the row owe it.
+-- Assumes nothing.
+use Prim.Native.Nat.{ℕ, _≤_, _<_}
+use native.Mathlib.Nat.{le-antisymm}
+use native.Mathlib.Omega.{arith}
+use mathlib.Core.Path.{_≡_, refl, sym, ap, _∙_}
+use mathlib.Core.Logic.{_⊎_, inl, inr, _↔_}
+use mathlib.Core.Bool.{Bool, true, false, cond, true≢false}
+use borrow.Author.Tests.{leb-true, leb-false, not-false}
+use lib.Dec.{leb, eqb, lit≤}
+use Rattle.rounding.specs.Fraction.{scaled}
+use Rattle.rounding.proofs.Soundness.{Sound}
+use Rattle.sp64.proofs.YesNoChecks.{layout-iff, slenderness-iff}
+use Rattle.member.specs.Checks.{Check, YesNo, Strength, yesNo, strength, number, yesNoOf, strengthOf, omitted, Among, Has, layout, slendernessH, slendernessB, jointLength, netTension, sidePieces, bending, shear, bucklingH, bucklingB, compressionBending, tensionBending}
+use Rattle.member.specs.Demand3.{FailsOn, LayoutOrSlenderness, FirstToFail, CountFor, Demand3At}
+use Rattle.member.specs.Member.{limitOf, countOf}
+use Rattle.member.specs.Unrounded.{Forces, times, Holds}
+use Rattle.member.specs.Verdict.{holds, utilisationOf, used, governing, byStrength, countOnFail, failedOn, verdict}
+use Rattle.member.specs.declared.member.Member.{Member}
+use Rattle.member.specs.declared.verdict.Verdict.{Verdict}
+use Rattle.member.proofs.VerdictLaws.{yesNoNumber, strengthNumber, yes-no-rising, strength-rising, rising-same, AllHold, FirstFailing, judge-meaning, Governs, governs}
+
+-- The numbers of the checks: yes-or-no checks have 1 to 4, each its own, and strength checks 5 and more.
+yes-no-low : (c : YesNo) → yesNoNumber c ≤ 4
+yes-no-low layout = lit≤ tt
+yes-no-low slendernessH = lit≤ tt
+yes-no-low slendernessB = lit≤ tt
+yes-no-low jointLength = lit≤ tt
+
+pub strength-high : (c : Strength) → 5 ≤ strengthNumber c
+strength-high netTension = lit≤ tt
+strength-high sidePieces = lit≤ tt
+strength-high bending = lit≤ tt
+strength-high shear = lit≤ tt
+strength-high bucklingH = lit≤ tt
+strength-high bucklingB = lit≤ tt
+strength-high compressionBending = lit≤ tt
+strength-high tensionBending = lit≤ tt
+
+abbrev yesNoAt : ℕ → YesNo
+yesNoAt n = cond (eqb n 1) layout (cond (eqb n 2) slendernessH (cond (eqb n 3) slendernessB jointLength))
+
+yes-no-at : (c : YesNo) → yesNoAt (yesNoNumber c) ≡ c
+yes-no-at layout = refl
+yes-no-at slendernessH = refl
+yes-no-at slendernessB = refl
+yes-no-at jointLength = refl
+
+same-yes-no : (c d : YesNo) → yesNoNumber c ≡ yesNoNumber d → c ≡ d
+same-yes-no c d e = sym (yes-no-at c) ∙ ap yesNoAt e ∙ yes-no-at d
+
+pub clash : {t : Bool} → t ≡ true → t ≡ false → ⊥
+clash e f = true≢false (sym e ∙ f)
+
+module _ (m : Member) (f : Forces) where
+  -- a strength check with its unrounded form
+  abbrev pub StrengthSound : ℕ → Strength → Type 0
+  StrengthSound g c = Sound g (utilisationOf m c) (Holds m f (strength c)) (λ k. Holds m (times k f) (strength c))
+
+  -- what the checks of the row owe: joint length, strength where the yes-or-no checks hold, and the count
+  pub record ChecksSound (g : ℕ) : Type 0 where
+    pub length-pass : m .jointed ≡ true → holds m jointLength ≡ true → Holds m f (yesNo jointLength)
+    pub length-fail : m .jointed ≡ true → holds m jointLength ≡ false → (k : ℕ) → g ≤ k → Holds m (times k f) (yesNo jointLength) → ⊥
+    pub strength-sound : AllHold m (yesNoOf (m .kind)) → (c : Strength) → Among c (strengthOf (m .kind)) → omitted m (strength c) ≡ false → StrengthSound g c
+    pub count-above : m .jointed ≡ true → (n : ℕ) → CountFor m (f .N) n → n ≤ countOf m
+    pub count-below : m .jointed ≡ true → (k : ℕ) → g ≤ k → (n : ℕ) → CountFor m (scaled k (f .N)) n → countOf m ≤ n
+
+  -- layout and slenderness round nothing
+  pub exact : (c : YesNo) → LayoutOrSlenderness (yesNo c) → holds m c ≡ true ↔ Holds m f (yesNo c)
+  exact layout low = layout-iff (m .height) (m .joint)
+  exact slendernessH low = slenderness-iff (limitOf m) (m .lh) (m .height)
+  exact slendernessB low = slenderness-iff (limitOf m) (m .lb) (m .width)
+  exact jointLength low = absurd (omega arith)
+
+  module _ {g : ℕ} (s : ChecksSound g) (k : ℕ) (big : g ≤ k) where
+    -- a yes-or-no check that holds, holds unrounded
+    yes-no-holds : (c : YesNo) → omitted m (yesNo c) ≡ false → holds m c ≡ true → Holds m f (yesNo c)
+    yes-no-holds layout kept e = exact layout (lit≤ tt) .0 e
+    yes-no-holds slendernessH kept e = exact slendernessH (lit≤ tt) .0 e
+    yes-no-holds slendernessB kept e = exact slendernessB (lit≤ tt) .0 e
+    yes-no-holds jointLength kept e = s .length-pass (not-false _ kept) e
+
+    -- the verdict by strength, where c governs
+    module _ (all : AllHold m (yesNoOf (m .kind))) (c : Strength) (governed : Governs m (strengthOf (m .kind)) c) where
+      abbrev byUse : Verdict
+      byUse = byStrength (used m c) (countOf m)
+
+      pass-strength : utilisationOf m c ≤ 1000000 → (d : Check) → Has m d → Holds m f d
+      pass-strength le (yesNo d) has = yes-no-holds d (has .kept) (all d (has .of-kind) (has .kept))
+      pass-strength le (strength d) has =
+          s .strength-sound all d (has .of-kind) (has .kept) .pass (omega (arith, governed .greatest d (has .of-kind) (has .kept)))
+
+      none-named : (d : Check) → LayoutOrSlenderness d → FailsOn byUse d → FirstToFail m f d
+      none-named d low on = let e : strengthNumber c ≡ number d = on .names in absurd (omega (arith, strength-high c))
+
+      none-first : (d : Check) → LayoutOrSlenderness d → FirstToFail m f d → FailsOn byUse d
+      none-first (yesNo d) low first = absurd (first .fails (exact d low .0 (all d (first .has .of-kind) (first .has .kept))))
+      none-first (strength d) low first = absurd (omega (arith, strength-high d))
+
+      fail-strength : (d : Check) → Has m d → FailsOn byUse d → Holds m (times k f) d → ⊥
+      fail-strength (yesNo d) has on h =
+          let e : strengthNumber c ≡ yesNoNumber d = on .names in absurd (omega (arith, strength-high c, yes-no-low d))
+      fail-strength (strength d) has on h =
+          let e : d ≡ c =
+          rising-same strengthNumber (strengthOf (m .kind)) (strength-rising (m .kind)) d c (has .of-kind) (governed .among) (sym (on .names)) in
+          s .strength-sound all d (has .of-kind) (has .kept) .fail k big (rw e (leb-false _ _ (on .fails))) h
+
+      demand-strength : Demand3At m f byUse k
+      demand-strength =
+          record {
+            named = (strength c, record { of-kind = governed .among; kept = governed .kept }, refl);
+            pass = λ e. pass-strength (leb-true _ _ e);
+            first = λ d low. (none-named d low, none-first d low);
+            fail = λ d has high on. fail-strength d has on;
+            count-above = λ j hold. s .count-above j;
+            count-below = λ j hold. s .count-below j k big;
+          }
+
+    -- the verdict by the yes-or-no check c, the first to fail
+    module _ (c : YesNo) (fails : FirstFailing m (yesNoOf (m .kind)) c) where
+      abbrev onCheck : Verdict
+      onCheck = failedOn (number (yesNo c)) (countOnFail m c)
+
+      has-it : Has m (yesNo c)
+      has-it = record { of-kind = fails .among; kept = fails .kept }
+
+      fails-exactly : LayoutOrSlenderness (yesNo c) → Holds m f (yesNo c) → ⊥
+      fails-exactly low h = clash (exact c low .1 h) (fails .fails)
+
+      holds-before : (d : Check) → Has m d → number d < number (yesNo c) → Holds m f d
+      holds-before (yesNo d) has lt = yes-no-holds d (has .kept) (fails .before d (has .of-kind) lt (has .kept))
+      holds-before (strength d) has lt = absurd (omega (arith, strength-high d, yes-no-low c))
+
+      first-to-fail : LayoutOrSlenderness (yesNo c) → FirstToFail m f (yesNo c)
+      first-to-fail low = record { has = has-it; fails = fails-exactly low; before = holds-before }
+
+      named-is-first : (d : Check) → LayoutOrSlenderness d → FailsOn onCheck d → FirstToFail m f d
+      named-is-first (yesNo d) low on =
+          let e : c ≡ d = same-yes-no c d (on .names) in rw (← e) (first-to-fail (rw (← e) at low))
+      named-is-first (strength d) low on = absurd (omega (arith, strength-high d))
+
+      first-is-named : (d : Check) → LayoutOrSlenderness d → FirstToFail m f d → FailsOn onCheck d
+      first-is-named (yesNo d) low first = record { fails = refl; names = by (leb (yesNoNumber c) (yesNoNumber d)) refl (leb (yesNoNumber d) (yesNoNumber c)) refl }
+        where
+          -- d comes later: c, which fails, would hold
+          later : yesNoNumber c < yesNoNumber d → ⊥
+          later lt = fails-exactly (omega arith) (first .before (yesNo c) has-it lt)
+
+          -- d comes earlier: it would hold
+          earlier : yesNoNumber d < yesNoNumber c → ⊥
+          earlier lt = first .fails (exact d low .0 (fails .before d (first .has .of-kind) lt (first .has .kept)))
+
+          by : (x : Bool) → leb (yesNoNumber c) (yesNoNumber d) ≡ x → (y : Bool) → leb (yesNoNumber d) (yesNoNumber c) ≡ y → yesNoNumber c ≡ yesNoNumber d
+          by true e true e′ = le-antisymm (leb-true _ _ e) (leb-true _ _ e′)
+          by false e y e′ = absurd (earlier (leb-false _ _ e))
+          by true e false e′ = absurd (later (leb-false _ _ e′))
+      first-is-named (strength d) low first = absurd (omega (arith, strength-high d))
+
+      -- joint length is the one check that fails by its rounding
+      fail-length : (d : YesNo) → (LayoutOrSlenderness (yesNo d) → ⊥) → omitted m (yesNo d) ≡ false → holds m d ≡ false → Holds m (times k f) (yesNo d) → ⊥
+      fail-length layout high kept e h = high (lit≤ tt)
+      fail-length slendernessH high kept e h = high (lit≤ tt)
+      fail-length slendernessB high kept e h = high (lit≤ tt)
+      fail-length jointLength high kept e h = s .length-fail (not-false _ kept) e k big h
+
+      fail-yes-no : (d : Check) → Has m d → (LayoutOrSlenderness d → ⊥) → FailsOn onCheck d → Holds m (times k f) d → ⊥
+      fail-yes-no (yesNo d) has high on h =
+          let e : c ≡ d = same-yes-no c d (on .names) in fail-length d high (has .kept) (rw (← e) (fails .fails)) h
+      fail-yes-no (strength d) has high on h =
+          let e : yesNoNumber c ≡ strengthNumber d = on .names in absurd (omega (arith, strength-high d, yes-no-low c))
+
+      -- where layout and slenderness hold, the check that fails is joint length, and the verdict has the count
+      not-exact : ((d : Check) → LayoutOrSlenderness d → Has m d → Holds m f d) → LayoutOrSlenderness (yesNo c) → ⊥
+      not-exact hold low = fails-exactly low (hold (yesNo c) low has-it)
+
+      counted : (P : ℕ → Type 0) (d : YesNo) → (LayoutOrSlenderness (yesNo d) → ⊥) → P (countOf m) → P (countOnFail m d)
+      counted P layout high p = absurd (high (lit≤ tt))
+      counted P slendernessH high p = absurd (high (lit≤ tt))
+      counted P slendernessB high p = absurd (high (lit≤ tt))
+      counted P jointLength high p = p
+
+      demand-yes-no : Demand3At m f onCheck k
+      demand-yes-no =
+          record {
+            named = (yesNo c, has-it, refl);
+            pass = λ e. absurd (true≢false (sym e));
+            first = λ d low. (named-is-first d low, first-is-named d low);
+            fail = fail-yes-no;
+            count-above = λ j hold n least. counted (λ count. n ≤ count) c (not-exact hold) (s .count-above j n least);
+            count-below = λ j hold n least. counted (λ count. count ≤ n) c (not-exact hold) (s .count-below j k big n least);
+          }
+
+    -- demand 3 of the verdict
+    pub demand-from : Demand3At m f (verdict m) k
+    demand-from = by (judge-meaning m (yesNoOf (m .kind)) (yes-no-rising (m .kind)) (byStrength (governing m (strengthOf (m .kind))) (countOf m)))
+      where
+        by : (AllHold m (yesNoOf (m .kind)) × (verdict m ≡ byStrength (governing m (strengthOf (m .kind))) (countOf m)))
+            ⊎ ((c : YesNo) × FirstFailing m (yesNoOf (m .kind)) c × (verdict m ≡ failedOn (number (yesNo c)) (countOnFail m c)))
+            → Demand3At m f (verdict m) k
+        by (inl (all, e)) = let g = governs m (m .kind) in rw (e, g .2) (demand-strength all (g .0) (g .1))
+        by (inr (c, fails, e)) = rw e (demand-yes-no c fails)

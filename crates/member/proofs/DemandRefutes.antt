@@ -1,0 +1,96 @@
+-- Demand 3 has teeth: it refutes wrong verdicts and counts of the worked rows, whatever else they say; and its factor is not idle.
+-- Assumes nothing.
+use Prim.Native.Nat.{ℕ, _≤_}
+use native.Mathlib.Omega.{arith}
+use mathlib.Core.Path.{_≡_, refl}
+use mathlib.Core.Logic.{inl, inr}
+use mathlib.Core.Bool.{Bool, true, false}
+use lib.Dec.{lit<, lit≤}
+use Rattle.rounding.specs.Fraction.{whole, scaled}
+use Rattle.cells.specs.Lowest.{lowest}
+use Rattle.cells.specs.Refusal.{gives}
+use Rattle.sp64.specs.Joint.{ExactJointLength}
+use Rattle.member.specs.Acceptance.{lowestThat, acceptKind, accept}
+use Rattle.member.specs.Checks.{Check, yesNo, strength, Has, layout, slendernessH, slendernessB, jointLength, bending, compressionBending}
+use Rattle.member.specs.Demand3.{LayoutOrSlenderness, CountFor, Demand3}
+use Rattle.member.specs.Member.{valuesOf, memberOf}
+use Rattle.member.specs.Unrounded.{forcesOf, Holds}
+use Rattle.member.specs.Verdict.{governing, judgeBy, verdict}
+use Rattle.member.specs.WorkedRows.{rowA, rowE, rowF, edgeRow}
+use Rattle.member.specs.declared.kind.Kind.the-variants.{Tension, Bending, CompressionBending}
+use Rattle.member.specs.declared.member.Member.{Member}
+use Rattle.member.specs.declared.verdict.Verdict.{Verdict}
+use Rattle.member.proofs.DemandLaws.{strength-high}
+
+abbrev says : Bool → ℕ → ℕ → ℕ → Verdict
+says passes check utilisation count = record { passes = passes; check = check; utilisation = utilisation; count = count }
+
+-- Row A failed on check 7.
+abbrev memberA : Member
+memberA = memberOf Bending false (valuesOf rowA)
+
+pub row-A-accepted : accept rowA ≡ gives memberA
+unfolding acceptKind lowestThat lowest
+row-A-accepted = refl
+
+pub row-A-failed : (utilisation count : ℕ) → Demand3 memberA (says false 7 utilisation count) 1005 → ⊥
+row-A-failed u n d =
+    d .fail (strength bending) (record { of-kind = inl refl; kept = refl }) (λ low. absurd (omega arith)) (record { fails = refl; names = refl }) (lit≤ tt)
+
+-- Row F passed.
+abbrev memberF : Member
+memberF = memberOf Tension true (valuesOf rowF)
+
+pub row-F-accepted : accept rowF ≡ gives memberF
+unfolding acceptKind lowestThat lowest
+row-F-accepted = refl
+
+too-long : ExactJointLength (whole 100000) (memberF .width) (memberF .joint) (memberF .material) → ⊥
+too-long x = omega (arith, x .least-count .holds .bending, x .least-columns .holds, x .fits)
+
+pub row-F-passed : (check utilisation count : ℕ) → Demand3 memberF (says true check utilisation count) 1005 → ⊥
+row-F-passed c u n d = too-long (d .pass refl (yesNo jointLength) (record { of-kind = inr (inr (inr (inl refl))); kept = refl }))
+
+-- Row E with another count.
+abbrev memberE : Member
+memberE = memberOf Tension true (valuesOf rowE)
+
+pub row-E-accepted : accept rowE ≡ gives memberE
+unfolding acceptKind lowestThat lowest
+row-E-accepted = refl
+
+-- row E keeps layout and slenderness
+kept-E : (c : Check) → LayoutOrSlenderness c → Has memberE c → Holds memberE (forcesOf memberE) c
+kept-E (yesNo layout) low has = lit≤ tt
+kept-E (yesNo slendernessH) low has = lit≤ tt
+kept-E (yesNo slendernessB) low has = lit≤ tt
+kept-E (yesNo jointLength) low has = absurd (omega arith)
+kept-E (strength c) low has = absurd (omega (arith, strength-high c))
+
+-- it needs 25 dowels unrounded, and still 25 with N times 1.005
+count-E : CountFor memberE (whole 100000) 25
+count-E = record { holds = record { core = lit≤ tt; side = lit≤ tt; bending = lit≤ tt }; least = λ j s. omega (arith, s .bending) }
+
+count-E-scaled : CountFor memberE (scaled 1005 (whole 100000)) 25
+count-E-scaled = record { holds = record { core = lit≤ tt; side = lit≤ tt; bending = lit≤ tt }; least = λ j s. omega (arith, s .bending) }
+
+pub row-E-with-24 : (passes : Bool) (check utilisation : ℕ) → Demand3 memberE (says passes check utilisation 24) 1005 → ⊥
+row-E-with-24 p c u d = let le : 25 ≤ 24 = d .count-above refl kept-E 25 count-E in absurd (omega arith)
+
+pub row-E-with-26 : (passes : Bool) (check utilisation : ℕ) → Demand3 memberE (says passes check utilisation 26) 1005 → ⊥
+row-E-with-26 p c u d = let le : 26 ≤ 25 = d .count-below refl kept-E 25 count-E-scaled in absurd (omega arith)
+
+-- A row whose verdict by the rules breaks demand 3 at 1002.
+abbrev edgeMember : Member
+edgeMember = memberOf CompressionBending false (valuesOf edgeRow)
+
+pub edge-accepted : accept edgeRow ≡ gives edgeMember
+unfolding acceptKind lowestThat lowest
+edge-accepted = refl
+
+pub edge-breaks-1002 : Demand3 edgeMember (verdict edgeMember) 1002 → ⊥
+unfolding judgeBy governing
+edge-breaks-1002 d =
+    d .fail (strength compressionBending) (record { of-kind = inr (inr (inr (inl refl))); kept = refl }) (λ low. absurd (omega arith))
+    (record { fails = refl; names = refl })
+    (record { share = lit< tt; sum = lit≤ tt })

@@ -1,0 +1,9 @@
+pub mod AcceptanceLaws
+pub mod VerdictLaws
+pub mod DemandLaws
+pub mod RowChecks
+pub mod KeepsDemand3
+pub mod DemandRefutes
+pub mod Lighter
+pub mod DemandMeaning
+pub mod NothingEmpty

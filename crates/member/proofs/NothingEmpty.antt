@@ -1,0 +1,275 @@
+-- No unrounded check of an accepted row that keeps layout and slenderness holds or fails for an empty reason: every value in it has a denominator above
+-- zero, every value that another is divided by or compared with is above zero, and no difference is cut off.
+-- Assumes nothing.
+use Prim.Native.Nat.{ℕ, _*_, _<_}
+use mathlib.Core.Path.{_≡_, refl}
+use mathlib.Core.Logic.{inl, inr}
+use mathlib.Core.Bool.{Bool, true, false, cond}
+use mathlib.Core.List.{List}
+use borrow.Author.Tests.{not-false}
+use lib.Dec.{lit≤, lit<}
+use lib.ListN.{length}
+use Rattle.rounding.specs.Fraction.{Fraction, whole, _⊘_, _⊕_, _⊖_, _≼_, _≺_}
+use Rattle.rounding.proofs.Ranges.{in-wide}
+use Rattle.cells.specs.Refusal.{gives}
+use Rattle.cells.specs.Row.{cellCount}
+use Rattle.cells.specs.declared.row.Cell.{Cell}
+use Rattle.sp64.specs.Buckling.{stocky, exactSlenderPhi, exactBucklingPhi, exactBucklingCapacity, exactEulerCapacity}
+use Rattle.sp64.specs.Capacity.{exactNetTensionCapacity, exactSidePieceCapacity, exactShearCapacity, exactNR, exactMR}
+use Rattle.sp64.specs.Combined.{exactAxialShare, exactSecondOrderMoment}
+use Rattle.sp64.specs.Joint.{JointRanges, Layout, coreCrushing, sideCrushing, dowelBending, exactTerm}
+use Rattle.sp64.specs.Ranges.{InLength, InLimit, InSide}
+use Rattle.sp64.specs.Slenderness.{Slenderness}
+use Rattle.sp64.specs.Strength.{exactStrength}
+use Rattle.sp64.specs.declared.tables.Stress.{Stress}
+use Rattle.sp64.specs.declared.tables.Stress.the-variants.{Compression as compressionStress, Tension as tensionStress, Shear as shearStress}
+use Rattle.sp64.proofs.Denominators.{Proper, scaled-real, net-height-kept, stocky-phi-kept, phi-proper, slender-phi-proper, core-crushing-proper, side-crushing-proper, dowel-bending-proper, strength-proper, tension-proper, net-tension-proper, side-piece-proper, compression-proper, bending-proper, shear-proper, buckling-proper, euler-proper, share-real, remainder-proper, moment-real, combined-real}
+use Rattle.member.specs.Acceptance.{accept}
+use Rattle.member.specs.Checks.{Check, YesNo, Strength, yesNo, strength, yesNoOf, strengthOf, omitted, Among, Has, layout, slendernessH, slendernessB, netTension, sidePieces, bending, shear, bucklingH, bucklingB, compressionBending, tensionBending}
+use Rattle.member.specs.Demand3.{LayoutOrSlenderness}
+use Rattle.member.specs.Member.{limitOf}
+use Rattle.member.specs.Ranges.{Sized, Braced, RangesOf}
+use Rattle.member.specs.Unrounded.{Forces, forcesOf, times, Holds}
+use Rattle.member.specs.declared.kind.Kind.{Kind}
+use Rattle.member.specs.declared.kind.Kind.the-variants.{Tension, Bending, Compression, CompressionBending, TensionBending}
+use Rattle.member.specs.declared.member.Member.{Member}
+use Rattle.member.proofs.AcceptanceLaws.{accept-ranges}
+use Rattle.member.proofs.RowChecks.{not-row-4, joint-row}
+
+-- N, M and Q are values
+pub record Real (f : Forces) : Type 0 where
+  pub N : 0 < f .N .den
+  pub M : 0 < f .M .den
+  pub Q : 0 < f .Q .den
+
+-- the forces of the cells are values
+pub forces-real : (m : Member) → Real (forcesOf m)
+forces-real m = record { N = lit< tt; M = lit< tt; Q = lit< tt }
+
+-- and so are k thousandths of forces that are
+pub times-real : (k : ℕ) (f : Forces) → Real f → Real (times k f)
+times-real k f real =
+    record { N = scaled-real k (f .N) (real .N); M = scaled-real k (f .M) (real .M); Q = scaled-real k (f .Q) (real .Q) }
+
+-- a force, and the capacity that it is held against
+pub record ProperRatio (force capacity : Fraction) : Type 0 where
+  pub force-real : 0 < force .den
+  pub capacity-proper : Proper capacity
+
+-- checks 5 and 6 with a joint: the dowels leave some of the height
+abbrev pub HeightLeft : Member → Type 0
+HeightLeft m = m .joint .across * m .joint .diameter < m .height
+
+-- checks 9 and 10, of a length L and a side s: NR, φ and their product; and up to the turn at 70 the first form of φ is not cut off
+pub record ProperBuckling (N NR : Fraction) (L s : ℕ) : Type 0 where
+  pub ratio : ProperRatio N (exactBucklingCapacity NR (exactBucklingPhi L s))
+  pub axial : Proper NR
+  pub phi : Proper (exactBucklingPhi L s)
+  pub kept : stocky L s ≡ true → whole (960 * (L * L)) ⊘ whole (s * s) ≼ whole 1000000
+
+-- check 11: N against NR, Md against MR, and the sum of their ratios
+pub record ProperCombined (N NR Md MR : Fraction) : Type 0 where
+  pub axial : ProperRatio N NR
+  pub moment : ProperRatio Md MR
+  pub sum : 0 < (N ⊘ NR ⊕ Md ⊘ MR) .den
+
+-- check 11 of kind 4: M, NR × φ' and p, and where p is below one also 1,000,000 − p, Md and the sum
+pub record ProperCompressionBending (N M NR C MR : Fraction) : Type 0 where
+  pub axial : ProperRatio N NR
+  pub moment : ProperRatio M MR
+  pub euler : Proper C
+  pub share : 0 < exactAxialShare N C .den
+  pub remainder : exactAxialShare N C ≺ whole 1000000 → Proper (whole 1000000 ⊖ exactAxialShare N C)
+  pub combined : exactAxialShare N C ≺ whole 1000000 → ProperCombined N NR (exactSecondOrderMoment M (exactAxialShare N C)) MR
+
+-- what must be a value, and what above zero, in the unrounded strength check c at the forces f
+abbrev pub ProperAt : Member → Forces → Strength → Type 0
+ProperAt m f netTension =
+    ProperRatio (f .N)
+    (cond (m .jointed)
+    (exactNetTensionCapacity (m .width) (m .height) (m .joint) (exactStrength tensionStress (m .material)))
+    (exactNR tensionStress (m .width) (m .height) (m .material)))
+    × (m .jointed ≡ true → HeightLeft m)
+ProperAt m f sidePieces =
+    ProperRatio (f .N) (exactSidePieceCapacity (m .height) (m .joint) (exactStrength tensionStress (m .material))) × HeightLeft m
+ProperAt m f bending = ProperRatio (f .M) (exactMR (m .width) (m .height) (m .material))
+ProperAt m f shear = ProperRatio (f .Q) (exactShearCapacity (m .width) (m .height) (exactStrength shearStress (m .material)))
+ProperAt m f bucklingH = ProperBuckling (f .N) (exactNR compressionStress (m .width) (m .height) (m .material)) (m .lh) (m .height)
+ProperAt m f bucklingB = ProperBuckling (f .N) (exactNR compressionStress (m .width) (m .height) (m .material)) (m .lb) (m .width)
+ProperAt m f compressionBending =
+    Proper (exactSlenderPhi (m .lh) (m .height))
+    × ProperCompressionBending (f .N) (f .M)
+    (exactNR compressionStress (m .width) (m .height) (m .material))
+    (exactEulerCapacity (exactNR compressionStress (m .width) (m .height) (m .material)) (m .lh) (m .height))
+    (exactMR (m .width) (m .height) (m .material))
+ProperAt m f tensionBending =
+    ProperCombined (f .N) (exactNR tensionStress (m .width) (m .height) (m .material)) (f .M) (exactMR (m .width) (m .height) (m .material))
+
+-- the terms of a dowel, and the dowels of a column, by which the count is divided
+pub record ProperJoint (m : Member) : Type 0 where
+  pub core : Proper (exactTerm (coreCrushing (m .width) (m .joint)) (m .material))
+  pub side : Proper (exactTerm (sideCrushing (m .joint)) (m .material))
+  pub bending : Proper (exactTerm (dowelBending (m .joint)) (m .material))
+  pub across : 0 < m .joint .across
+
+-- check 11 from its parts
+combined-proper : {N NR Md MR : Fraction} → ProperRatio N NR → ProperRatio Md MR → ProperCombined N NR Md MR
+combined-proper {N} {NR} {Md} {MR} n d =
+    record { axial = n; moment = d; sum = combined-real N NR Md MR (n .force-real) (n .capacity-proper) (d .force-real) (d .capacity-proper) }
+
+module _ (m : Member) (f : Forces) (real : Real f) where
+  -- check 5, where a joint keeps its layout
+  net-tension : Sized m → (m .jointed ≡ true → JointRanges (m .joint) × Layout (m .height) (m .joint)) → ProperAt m f netTension
+  net-tension sized laid = (
+    record { force-real = real .N; capacity-proper = by (m .jointed) refl },
+    λ e. net-height-kept (sized .section .height) (laid e .0) (laid e .1),
+  )
+    where
+      by : (t : Bool) → m .jointed ≡ t
+          → Proper (cond t (exactNetTensionCapacity (m .width) (m .height) (m .joint) (exactStrength tensionStress (m .material))) (exactNR tensionStress (m .width) (m .height) (m .material)))
+      by true e = net-tension-proper (sized .material) (sized .section) (laid e .0) (laid e .1)
+      by false e = tension-proper (sized .material) (sized .section)
+
+  module _ (sized : Sized m) where
+    -- checks 7 and 8
+    against-moment : ProperAt m f bending
+    against-moment = record { force-real = real .M; capacity-proper = bending-proper (sized .material) (sized .section) }
+
+    against-shear : ProperAt m f shear
+    against-shear = record { force-real = real .Q; capacity-proper = shear-proper (sized .material) (sized .section) }
+
+    -- checks 9 and 10, where slenderness holds
+    buckling : {L s : ℕ} → InLength L → InSide s → InLimit (limitOf m) → Slenderness (limitOf m) L s
+        → ProperBuckling (f .N) (exactNR compressionStress (m .width) (m .height) (m .material)) L s
+    buckling {L} {s} length side limit slender =
+        record {
+          ratio = record { force-real = real .N; capacity-proper = buckling-proper (sized .material) (sized .section) length side limit slender };
+          axial = compression-proper (sized .material) (sized .section);
+          phi = phi-proper length side limit slender;
+          kept = stocky-phi-kept L s;
+        }
+
+    -- check 11 of kind 4, where slenderness holds across the height
+    combined-compression : Braced m → Slenderness (limitOf m) (m .lh) (m .height) → ProperAt m f compressionBending
+    combined-compression braced slender =
+        let N = f .N in
+        let M = f .M in
+        let NR = exactNR compressionStress (m .width) (m .height) (m .material) in
+        let C = exactEulerCapacity NR (m .lh) (m .height) in
+        let side : InSide (m .height) = in-wide 20 2500 (lit≤ tt) (lit≤ tt) (sized .section .height) in
+        let axial : ProperRatio N NR = record { force-real = real .N; capacity-proper = compression-proper (sized .material) (sized .section) } in
+        let euler : Proper C = euler-proper (sized .material) (sized .section) (braced .lh) side (braced .limit) slender in
+        let Md-real = moment-real N M C (real .N) (real .M) euler in (
+          slender-phi-proper (braced .lh) side (braced .limit) slender,
+          record {
+            axial = axial;
+            moment = against-moment;
+            euler = euler;
+            share = share-real N M C (real .N) (real .M) euler;
+            remainder = remainder-proper N M C (real .N) (real .M) euler;
+            combined = λ below. combined-proper axial (record { force-real = Md-real below; capacity-proper = against-moment .capacity-proper });
+          },
+        )
+
+  -- layout and slenderness hold in a row of the kind
+  abbrev Laid : Kind → Type 0
+  Laid kind = (c : YesNo) → LayoutOrSlenderness (yesNo c) → Among c (yesNoOf kind) → omitted m (yesNo c) ≡ false → Holds m (forcesOf m) (yesNo c)
+
+  -- kind 1: checks 5 and 6
+  tension-row : RangesOf Tension m → Laid Tension → (c : Strength) → Among c (strengthOf Tension) → omitted m (strength c) ≡ false → ProperAt m f c
+  tension-row ranges hold = by
+    where
+      laid : m .jointed ≡ true → JointRanges (m .joint) × Layout (m .height) (m .joint)
+      laid e = (ranges .3 e, hold layout (lit≤ tt) (inl refl) (rw e refl))
+
+      by : (c : Strength) → Among c (strengthOf Tension) → omitted m (strength c) ≡ false → ProperAt m f c
+      by c (inl e) kept = rw e (net-tension (ranges .0) laid)
+      by c (inr (inl e)) kept =
+          let j = laid (not-false _ (rw e at kept)) in
+          rw e (
+            record { force-real = real .N; capacity-proper = side-piece-proper (ranges .0 .material) (ranges .0 .section) (j .0) (j .1) },
+            net-height-kept (ranges .0 .section .height) (j .0) (j .1),
+          )
+      by c (inr (inr a)) kept = absurd a
+
+  -- checks 9 and 10 of kinds 3 and 4
+  module _ (sized : Sized m) (braced : Braced m) where
+    buckling-height : Slenderness (limitOf m) (m .lh) (m .height) → ProperAt m f bucklingH
+    buckling-height = buckling sized (braced .lh) (in-wide 20 2500 (lit≤ tt) (lit≤ tt) (sized .section .height)) (braced .limit)
+
+    buckling-width : Slenderness (limitOf m) (m .lb) (m .width) → ProperAt m f bucklingB
+    buckling-width = buckling sized (braced .lb) (in-wide 20 2500 (lit≤ tt) (lit≤ tt) (sized .section .width)) (braced .limit)
+
+  -- a row of any kind
+  strength-row : (kind : Kind) → RangesOf kind m → Laid kind → (c : Strength) → Among c (strengthOf kind) → omitted m (strength c) ≡ false → ProperAt m f c
+  strength-row Tension ranges hold c a kept = tension-row ranges hold c a kept
+  -- kind 2: checks 7 and 8
+  strength-row Bending ranges hold c (inl e) kept = rw e (against-moment (ranges .0))
+  strength-row Bending ranges hold c (inr (inl e)) kept = rw e (against-shear (ranges .0))
+  strength-row Bending ranges hold c (inr (inr a)) kept = absurd a
+  -- kind 3: checks 9 and 10
+  strength-row Compression ranges hold c (inl e) kept =
+      rw e (buckling-height (ranges .0) (ranges .1) (hold slendernessH (lit≤ tt) (inl refl) refl))
+  strength-row Compression ranges hold c (inr (inl e)) kept =
+      rw e (buckling-width (ranges .0) (ranges .1) (hold slendernessB (lit≤ tt) (inr (inl refl)) (not-row-4 m (ranges .2))))
+  strength-row Compression ranges hold c (inr (inr a)) kept = absurd a
+  -- kind 4: checks 8 to 11
+  strength-row CompressionBending ranges hold c (inl e) kept = rw e (against-shear (ranges .0))
+  strength-row CompressionBending ranges hold c (inr (inl e)) kept =
+      rw e (buckling-height (ranges .0) (ranges .1) (hold slendernessH (lit≤ tt) (inl refl) refl))
+  strength-row CompressionBending ranges hold c (inr (inr (inl e))) kept =
+      rw e (buckling-width (ranges .0) (ranges .1) (hold slendernessB (lit≤ tt) (inr (inl refl)) (not-row-4 m (ranges .2))))
+  strength-row CompressionBending ranges hold c (inr (inr (inr (inl e)))) kept =
+      rw e (combined-compression (ranges .0) (ranges .1) (hold slendernessH (lit≤ tt) (inl refl) refl))
+  strength-row CompressionBending ranges hold c (inr (inr (inr (inr a)))) kept = absurd a
+  -- kind 5: checks 8 and 11
+  strength-row TensionBending ranges hold c (inl e) kept = rw e (against-shear (ranges .0))
+  strength-row TensionBending ranges hold c (inr (inl e)) kept =
+      rw e (
+      combined-proper
+      (record { force-real = real .N; capacity-proper = tension-proper (ranges .0 .material) (ranges .0 .section) })
+      (against-moment (ranges .0))
+      )
+  strength-row TensionBending ranges hold c (inr (inr a)) kept = absurd a
+
+-- the grade and the section of a row
+sized-row : (m : Member) (kind : Kind) → RangesOf kind m → Sized m
+sized-row m Tension ranges = ranges .0
+sized-row m Bending ranges = ranges .0
+sized-row m Compression ranges = ranges .0
+sized-row m CompressionBending ranges = ranges .0
+sized-row m TensionBending ranges = ranges .0
+
+module _ (cells : List Cell) (m : Member) (whole : length cells ≡ cellCount) (given : accept cells ≡ gives m) where
+  -- the strengths of the row are above zero
+  pub strengths-proper : (stress : Stress) → Proper (exactStrength stress (m .material))
+  strengths-proper = strength-proper (sized-row m (m .kind) (accept-ranges cells m whole given) .material)
+
+  -- a joint's terms are above zero, whatever its layout
+  pub joint-proper : m .jointed ≡ true → ProperJoint m
+  joint-proper e =
+      let j = joint-row m (m .kind) (accept-ranges cells m whole given) e in
+      record {
+        core = core-crushing-proper (j .0 .section .width) (j .1) (j .0 .material);
+        side = side-crushing-proper (j .0 .section .width) (j .1) (j .0 .material);
+        bending = dowel-bending-proper (j .0 .section .width) (j .1) (j .0 .material);
+        across = j .1 .across .low;
+      }
+
+  module _ (hold : (c : Check) → LayoutOrSlenderness c → Has m c → Holds m (forcesOf m) c) where
+    -- at any forces that are values, nothing in a strength check of the row is empty
+    pub nothing-empty-at : (f : Forces) → Real f → (c : Strength) → Has m (strength c) → ProperAt m f c
+    nothing-empty-at f real c has =
+        strength-row m f real (m .kind) (accept-ranges cells m whole given)
+        (λ d low a kept. hold (yesNo d) low (record { of-kind = a; kept = kept }))
+        c
+        (has .of-kind)
+        (has .kept)
+
+    -- nor at the forces of the cells
+    pub nothing-empty : (c : Strength) → Has m (strength c) → ProperAt m (forcesOf m) c
+    nothing-empty = nothing-empty-at (forcesOf m) (forces-real m)
+
+    -- nor at k thousandths of them
+    pub nothing-empty-scaled : (k : ℕ) (c : Strength) → Has m (strength c) → ProperAt m (times k (forcesOf m)) c
+    nothing-empty-scaled k = nothing-empty-at (times k (forcesOf m)) (times-real k (forcesOf m) (forces-real m))

@@ -1,0 +1,95 @@
+-- The checks, and which of them a row has.
+-- Assumes nothing.
+use Prim.Native.Nat.{ℕ}
+use mathlib.Core.Path.{_≡_}
+use mathlib.Core.Bool.{Bool, false, not}
+use mathlib.Core.List.{List, [], _∷_}
+use mathlib.Core.Logic.{_⊎_}
+use lib.Dec.{eqb}
+use Rattle.member.specs.declared.kind.Kind.{Kind}
+use Rattle.member.specs.declared.kind.Kind.the-variants.{Tension, Bending, Compression, CompressionBending, TensionBending}
+use Rattle.member.specs.declared.member.Member.{Member}
+
+-- the yes-or-no checks; slenderness across the height and across the width
+pub data YesNo : Type 0 where
+  layout : YesNo
+  slendernessH : YesNo
+  slendernessB : YesNo
+  jointLength : YesNo
+
+-- the strength checks; buckling across the height and across the width; check 11 of kind 4 and of kind 5
+pub data Strength : Type 0 where
+  netTension : Strength
+  sidePieces : Strength
+  bending : Strength
+  shear : Strength
+  bucklingH : Strength
+  bucklingB : Strength
+  compressionBending : Strength
+  tensionBending : Strength
+
+-- a check
+pub data Check : Type 0 where
+  yesNo : YesNo → Check
+  strength : Strength → Check
+
+-- document 01's number of a check
+abbrev pub number : Check → ℕ
+number (yesNo layout) = 1
+number (yesNo slendernessH) = 2
+number (yesNo slendernessB) = 3
+number (yesNo jointLength) = 4
+number (strength netTension) = 5
+number (strength sidePieces) = 6
+number (strength bending) = 7
+number (strength shear) = 8
+number (strength bucklingH) = 9
+number (strength bucklingB) = 10
+number (strength compressionBending) = 11
+number (strength tensionBending) = 11
+
+-- the yes-or-no checks of a kind, in the order in which they are taken
+abbrev pub yesNoOf : Kind → List YesNo
+yesNoOf Tension = layout ∷ slendernessH ∷ slendernessB ∷ jointLength ∷ []
+yesNoOf Bending = []
+yesNoOf Compression = slendernessH ∷ slendernessB ∷ []
+yesNoOf CompressionBending = slendernessH ∷ slendernessB ∷ []
+yesNoOf TensionBending = slendernessH ∷ slendernessB ∷ []
+
+-- the strength checks of a kind, the lowest number first
+abbrev pub strengthOf : Kind → List Strength
+strengthOf Tension = netTension ∷ sidePieces ∷ []
+strengthOf Bending = bending ∷ shear ∷ []
+strengthOf Compression = bucklingH ∷ bucklingB ∷ []
+strengthOf CompressionBending = shear ∷ bucklingH ∷ bucklingB ∷ compressionBending ∷ []
+strengthOf TensionBending = shear ∷ tensionBending ∷ []
+
+-- what a row does without: checks 1, 4 and 6 where there is no joint, check 3 where cell 13 is 4
+abbrev pub omitted : Member → Check → Bool
+omitted m (yesNo layout) = not (m .jointed)
+omitted m (yesNo slendernessH) = false
+omitted m (yesNo slendernessB) = eqb (m .table16) 4
+omitted m (yesNo jointLength) = not (m .jointed)
+omitted m (strength netTension) = false
+omitted m (strength sidePieces) = not (m .jointed)
+omitted m (strength bending) = false
+omitted m (strength shear) = false
+omitted m (strength bucklingH) = false
+omitted m (strength bucklingB) = false
+omitted m (strength compressionBending) = false
+omitted m (strength tensionBending) = false
+
+-- x is one of the list
+abbrev pub Among : {A : Type 0} → A → List A → Type 0
+Among x [] = ⊥
+Among x (y ∷ list) = (x ≡ y) ⊎ Among x list
+
+-- a check of the kind
+abbrev pub OfKind : Kind → Check → Type 0
+OfKind kind (yesNo c) = Among c (yesNoOf kind)
+OfKind kind (strength c) = Among c (strengthOf kind)
+
+-- a row has the checks of its kind, save those that it does without
+pub record Has (m : Member) (c : Check) : Type 0 where
+  pub of-kind : OfKind (m .kind) c
+  pub kept : omitted m c ≡ false

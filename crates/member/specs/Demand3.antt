@@ -1,0 +1,60 @@
+-- Demand 3: on which side of the code's line a verdict and a count fall.
+-- Assumes nothing.
+use Prim.Native.Nat.{ℕ, _≤_, _<_}
+use mathlib.Core.Path.{_≡_}
+use mathlib.Core.Bool.{true, false}
+use mathlib.Core.Logic.{_↔_}
+use mathlib.Core.List.{List}
+use Rattle.cells.specs.Refusal.{gives}
+use Rattle.cells.specs.declared.row.Cell.{Cell}
+use Rattle.rounding.specs.Fraction.{Fraction, scaled}
+use Rattle.sp64.specs.Joint.{LeastCount}
+use Rattle.member.specs.Acceptance.{accept}
+use Rattle.member.specs.Checks.{Check, number, Has}
+use Rattle.member.specs.Unrounded.{Forces, forcesOf, times, Holds}
+use Rattle.member.specs.declared.member.Member.{Member}
+use Rattle.member.specs.declared.verdict.Answer.{Answer}
+use Rattle.member.specs.declared.verdict.Answer.the-variants.{Judged}
+use Rattle.member.specs.declared.verdict.Verdict.{Verdict}
+
+-- a row fails on the check that its verdict names
+pub record FailsOn (v : Verdict) (c : Check) : Type 0 where
+  pub fails : v .passes ≡ false
+  pub names : v .check ≡ number c
+
+-- layout is check 1, slenderness checks 2 and 3; the others are joint length, check 4, and strength, checks 5 to 11
+abbrev pub LayoutOrSlenderness : Check → Type 0
+LayoutOrSlenderness c = number c ≤ 3
+
+-- check c is the first of the row's that fails unrounded
+pub record FirstToFail (m : Member) (f : Forces) (c : Check) : Type 0 where
+  pub has : Has m c
+  pub fails : Holds m f c → ⊥
+  pub before : (d : Check) → Has m d → number d < number c → Holds m f d
+
+-- the unrounded least count for a force
+abbrev pub CountFor : Member → Fraction → ℕ → Type 0
+CountFor m N = LeastCount N (m .width) (m .joint) (m .material)
+
+-- demand 3 for forces f and a factor of k thousandths
+pub record Demand3At (m : Member) (f : Forces) (v : Verdict) (k : ℕ) : Type 0 where
+  -- the verdict names a check that the row has
+  pub named : (c : Check) × Has m c × (v .check ≡ number c)
+  -- a pass means that every check the row has holds with nothing rounded
+  pub pass : v .passes ≡ true → (c : Check) → Has m c → Holds m f c
+  -- a row fails on layout or slenderness exactly when one of these fails unrounded, and the first such is named
+  pub first : (c : Check) → LayoutOrSlenderness c → FailsOn v c ↔ FirstToFail m f c
+  -- a fail on strength or joint length means that the same check fails unrounded with N, M and Q each times k thousandths
+  pub fail : (c : Check) → Has m c → (LayoutOrSlenderness c → ⊥) → FailsOn v c → Holds m (times k f) c → ⊥
+  -- where layout and slenderness hold, a joint's count is no less than the unrounded least count for N
+  pub count-above : m .jointed ≡ true → ((c : Check) → LayoutOrSlenderness c → Has m c → Holds m f c) → (n : ℕ) → CountFor m (f .N) n → n ≤ v .count
+  -- and no more than that for k thousandths of N
+  pub count-below : m .jointed ≡ true → ((c : Check) → LayoutOrSlenderness c → Has m c → Holds m f c) → (n : ℕ) → CountFor m (scaled k (f .N)) n → v .count ≤ n
+
+-- demand 3 for the forces of the cells
+abbrev pub Demand3 : Member → Verdict → ℕ → Type 0
+Demand3 m = Demand3At m (forcesOf m)
+
+-- for every row that is not refused the answer is a verdict, and the verdict keeps demand 3
+abbrev pub KeepsDemand3 : List Cell → Answer → ℕ → Type 0
+KeepsDemand3 cells answer k = (m : Member) → accept cells ≡ gives m → (v : Verdict) × (answer ≡ Judged v) × Demand3 m v k

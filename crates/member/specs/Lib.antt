@@ -1,0 +1,10 @@
+pub mod Kind
+pub mod Cells
+pub mod Member
+pub mod Acceptance
+pub mod Checks
+pub mod Verdict
+pub mod Unrounded
+pub mod Demand3
+pub mod Ranges
+pub mod WorkedRows

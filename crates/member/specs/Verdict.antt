@@ -1,0 +1,110 @@
+-- The verdict on a member.
+-- Assumes nothing.
+use Prim.Native.Nat.{ℕ}
+use mathlib.Core.Bool.{Bool, false, cond, _||_}
+use mathlib.Core.List.{List, [], _∷_}
+use lib.Dec.{leb}
+use Rattle.rounding.specs.Utilisation.{utilisation}
+use Rattle.sp64.specs.Buckling.{bucklingPhi, bucklingCapacity, eulerCapacity}
+use Rattle.sp64.specs.Capacity.{netTensionCapacity, sidePieceCapacity, shearCapacity, NR, MR}
+use Rattle.sp64.specs.Combined.{compressionBending as axialWithMoment, tensionBending as tensionWithMoment}
+use Rattle.sp64.specs.Joint.{layoutHolds, jointLengthHolds}
+use Rattle.sp64.specs.Slenderness.{slendernessHolds}
+use Rattle.sp64.specs.Strength.{designStrength}
+use Rattle.sp64.specs.declared.tables.Stress.the-variants.{Compression, Tension, Shear}
+use Rattle.cells.specs.Refusal.{Result, gives, refuses, refusedBy}
+use Rattle.cells.specs.declared.row.Cell.{Cell}
+use Rattle.member.specs.Acceptance.{accept}
+use Rattle.member.specs.Checks.{YesNo, Strength, yesNo, strength, number, yesNoOf, strengthOf, omitted, layout, slendernessH, slendernessB, jointLength, netTension, sidePieces, bending, shear, bucklingH, bucklingB, compressionBending, tensionBending}
+use Rattle.member.specs.Member.{limitOf, countOf}
+use Rattle.member.specs.declared.kind.Kind.{Kind}
+use Rattle.member.specs.declared.member.Member.{Member}
+use Rattle.member.specs.declared.verdict.Answer.{Answer}
+use Rattle.member.specs.declared.verdict.Answer.the-variants.{Refused, Judged}
+use Rattle.member.specs.declared.verdict.Governing.{Governing}
+use Rattle.member.specs.declared.verdict.Verdict.{Verdict}
+
+-- a yes-or-no check as the rules round it
+abbrev pub holds : Member → YesNo → Bool
+holds m layout = layoutHolds (m .height) (m .joint)
+holds m slendernessH = slendernessHolds (limitOf m) (m .lh) (m .height)
+holds m slendernessB = slendernessHolds (limitOf m) (m .lb) (m .width)
+holds m jointLength = jointLengthHolds (m .joint) (countOf m)
+
+-- the utilisation of a strength check
+abbrev pub utilisationOf : Member → Strength → ℕ
+utilisationOf m netTension =
+    utilisation (m .force)
+    (cond (m .jointed)
+    (netTensionCapacity (m .width) (m .height) (m .joint) (designStrength Tension (m .material)))
+    (NR Tension (m .width) (m .height) (m .material)))
+utilisationOf m sidePieces = utilisation (m .force) (sidePieceCapacity (m .height) (m .joint) (designStrength Tension (m .material)))
+utilisationOf m bending = utilisation (m .moment) (MR (m .width) (m .height) (m .material))
+utilisationOf m shear = utilisation (m .shear) (shearCapacity (m .width) (m .height) (designStrength Shear (m .material)))
+utilisationOf m bucklingH =
+    utilisation (m .force) (bucklingCapacity (NR Compression (m .width) (m .height) (m .material)) (bucklingPhi (m .lh) (m .height)))
+utilisationOf m bucklingB =
+    utilisation (m .force) (bucklingCapacity (NR Compression (m .width) (m .height) (m .material)) (bucklingPhi (m .lb) (m .width)))
+utilisationOf m compressionBending =
+    axialWithMoment (m .force) (m .moment)
+    (NR Compression (m .width) (m .height) (m .material))
+    (eulerCapacity (NR Compression (m .width) (m .height) (m .material)) (m .lh) (m .height))
+    (MR (m .width) (m .height) (m .material))
+utilisationOf m tensionBending =
+    tensionWithMoment (m .force) (m .moment) (NR Tension (m .width) (m .height) (m .material)) (MR (m .width) (m .height) (m .material))
+
+-- a strength check with its utilisation
+abbrev pub used : Member → Strength → Governing
+used m c = record { check = number (strength c); utilisation = utilisationOf m c }
+
+-- the greater utilisation, the first among equals
+abbrev pub greaterOf : Governing → Governing → Governing
+greaterOf x y = cond (leb (y .utilisation) (x .utilisation)) x y
+
+-- of the checks that the row has, the one of greatest utilisation, the lowest number among equals
+unfoldable pub governing : Member → List Strength → Governing
+governing m [] = record { check = 0; utilisation = 0 }
+governing m (c ∷ checks) = cond (omitted m (strength c)) (governing m checks) (greaterOf (used m c) (governing m checks))
+
+-- the verdict by strength: it passes up to 1,000,000
+abbrev pub byStrength : Governing → ℕ → Verdict
+byStrength g count = record { passes = leb (g .utilisation) 1000000; check = g .check; utilisation = g .utilisation; count = count }
+
+-- the count in a verdict that fails on a yes-or-no check: 0, for check 4 the count
+abbrev pub countOnFail : Member → YesNo → ℕ
+countOnFail m layout = 0
+countOnFail m slendernessH = 0
+countOnFail m slendernessB = 0
+countOnFail m jointLength = countOf m
+
+-- the verdict that fails on a yes-or-no check: utilisation 0
+abbrev pub failedOn : ℕ → ℕ → Verdict
+failedOn check count = record { passes = false; check = check; utilisation = 0; count = count }
+
+-- the first of the yes-or-no checks that the row has and that fails gives the verdict; where none does, strength gives it
+unfoldable pub judgeBy : Member → List YesNo → Verdict → Verdict
+judgeBy m [] otherwise = otherwise
+judgeBy m (c ∷ checks) otherwise =
+    cond (omitted m (yesNo c) || holds m c) (judgeBy m checks otherwise) (failedOn (number (yesNo c)) (countOnFail m c))
+
+-- the verdict on a member by the checks of a kind
+abbrev pub verdictBy : Kind → Member → Verdict
+verdictBy kind m = judgeBy m (yesNoOf kind) (byStrength (governing m (strengthOf kind)) (countOf m))
+
+-- the verdict on a member
+abbrev pub verdict : Member → Verdict
+verdict m = verdictBy (m .kind) m
+
+-- the verdict on an accepted member, or the refusal
+abbrev pub judged : Result Member → Result Verdict
+judged (gives m) = gives (verdict m)
+judged (refuses number cell) = refuses number cell
+
+-- "Check a row": the verdict, or a refusal by number and cell
+abbrev pub checkRow : List Cell → Result Verdict
+checkRow cells = judged (accept cells)
+
+-- what the row check's answer says in document 01's terms
+abbrev pub answerResult : Answer → Result Verdict
+answerResult (Refused refusal) = refusedBy refusal
+answerResult (Judged verdict) = gives verdict

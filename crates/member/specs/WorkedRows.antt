@@ -1,0 +1,57 @@
+-- The worked rows A to H of document 01, cell by cell, and a row on the edge of demand 3.
+-- Assumes nothing.
+use Prim.Native.Nat.{ℕ}
+use mathlib.Core.List.{List, [], _∷_, _++_, map}
+use Rattle.cells.specs.Row.{cellCount, blanks}
+use Rattle.cells.specs.declared.row.Cell.{Cell}
+use Rattle.cells.specs.declared.row.Cell.the-variants.{Whole}
+
+-- filled cells, in order
+abbrev filled : List ℕ → List Cell
+filled values = map (λ (value : ℕ). Whole value) values
+
+-- row A: kind 2, M and Q in cells 9 and 10
+abbrev pub rowA : List Cell
+rowA = filled (2 ∷ 1 ∷ 3 ∷ 10 ∷ 1000 ∷ 75 ∷ 300 ∷ []) ++ blanks 1 ++ filled (20000000 ∷ 20000 ∷ []) ++ blanks 12
+
+-- rows B, C and D: kind 3, alike in all but Lb, cell 12
+abbrev strut : ℕ → List Cell
+strut lb = filled (3 ∷ 3 ∷ 2 ∷ 13 ∷ 1000 ∷ 100 ∷ 200 ∷ 50000 ∷ []) ++ blanks 2 ++ filled (3000 ∷ lb ∷ 1 ∷ []) ++ blanks 9
+
+-- row B: Lb 2000
+abbrev pub rowB : List Cell
+rowB = strut 2000
+
+-- row C: Lb 2020, the last below slenderness 70
+abbrev pub rowC : List Cell
+rowC = strut 2020
+
+-- row D: Lb 2021, the first above slenderness 70
+abbrev pub rowD : List Cell
+rowD = strut 2021
+
+-- rows E, F and G: kind 1 with a joint, alike in all but d, cell 15, and the length available, cell 17
+abbrev tie : ℕ → ℕ → List Cell
+tie d available =
+    filled (1 ∷ 2 ∷ 4 ∷ 12 ∷ 1000 ∷ 100 ∷ 200 ∷ 100000 ∷ []) ++ blanks 2 ++ filled (3000 ∷ 3000 ∷ 5 ∷ [])
+    ++ filled (50 ∷ d ∷ 3 ∷ available ∷ 500 ∷ 800 ∷ 1800 ∷ 20 ∷ 2500 ∷ [])
+
+-- row E: d 12, and a length of 840
+abbrev pub rowE : List Cell
+rowE = tie 12 840
+
+-- row F: E with 839
+abbrev pub rowF : List Cell
+rowF = tie 12 839
+
+-- row G: E with d 16
+abbrev pub rowG : List Cell
+rowG = tie 16 840
+
+-- row H: every cell blank
+abbrev pub rowH : List Cell
+rowH = blanks cellCount
+
+-- a row of kind 4 that fails on check 11 by rounding alone: unrounded it still holds with the forces times 1.002
+abbrev pub edgeRow : List Cell
+edgeRow = filled (4 ∷ 3 ∷ 2 ∷ 60 ∷ 501 ∷ 20 ∷ 61 ∷ 507 ∷ 135 ∷ 0 ∷ 3462 ∷ 100 ∷ 3 ∷ []) ++ blanks 9
