@@ -1,0 +1,66 @@
+-- `is_broken` meets its contract: an arm for each rule.
+-- Assumes nothing.
+use borrow.Author.Needs.{needs}
+use Rattle.rowcheck.proofs.acceptance.is_broken.Statement.{statement}
+use Rattle.rowcheck.proofs.acceptance.is_broken.Tie as tie
+
+is-filled-requires : tie.Need-is-filled-requires
+is-filled-requires c κs = search needs
+
+value-of-requires : tie.Need-value-of-requires
+value-of-requires c κs = search needs
+
+enum-told : tie.Need-enum-told
+enum-told c = search needs
+
+is-optional-requires : tie.Need-is-optional-requires
+is-optional-requires c κs = search needs
+
+enum-told-2 : tie.Need-enum-told-2
+enum-told-2 c = search needs
+
+is-wanted-requires : tie.Need-is-wanted-requires
+is-wanted-requires c κs = search needs
+
+enum-told-3 : tie.Need-enum-told-3
+enum-told-3 c = search needs
+
+is-known-code-requires : tie.Need-is-known-code-requires
+is-known-code-requires c κs = search needs
+
+enum-told-4 : tie.Need-enum-told-4
+enum-told-4 c = search needs
+
+is-in-range-requires : tie.Need-is-in-range-requires
+is-in-range-requires c κs = search needs
+
+returns : tie.Need-returns
+returns c = let v = c .before .before .before in rw (c .before .enum-told .given .1, c .is-optional .ensures, v .before .is-filled .ensures)
+
+returns-2 : tie.Need-returns-2
+returns-2 c = let v = c .before .before .before in rw (c .before .enum-told2 .given .1, c .is-wanted .ensures, v .before .is-filled .ensures)
+
+returns-3 : tie.Need-returns-3
+returns-3 c = let v = c .before .before .before in rw (c .before .enum-told3 .given .1, c .is-known-code .ensures, v .value-of .ensures, v .before .is-filled .ensures)
+
+returns-4 : tie.Need-returns-4
+returns-4 c = let v = c .before .before .before in rw (c .before .enum-told4 .given .1, c .is-in-range .ensures, v .value-of .ensures, v .before .is-filled .ensures)
+
+pub is-broken-spec : {M : Type 1} → statement M
+is-broken-spec =
+    tie.close
+    (tie.spec
+    is-filled-requires
+    value-of-requires
+    enum-told
+    is-optional-requires
+    enum-told-2
+    is-wanted-requires
+    enum-told-3
+    is-known-code-requires
+    enum-told-4
+    is-in-range-requires
+    returns
+    returns-2
+    returns-3
+    returns-4)

@@ -1,0 +1,111 @@
+-- `check_kind` meets its contract: each refusal is that of the first rule that a cell breaks, and an accepted row's member keeps its ranges.
+-- Assumes nothing.
+use Prim.Native.Nat.{ℕ}
+use mathlib.Core.Path.{_≡_, sym, ap, subst, _∙_}
+use mathlib.Core.Bool.{Bool, not}
+use lib.Dec.{eqb}
+use lib.ListN.{length-map}
+use borrow.Author.Needs.{needs}
+use Rattle.cells.specs.Refusal.{gives}
+use Rattle.cells.specs.Row.{cellsOf}
+use Rattle.cells.proofs.RowLaws.{length-cells}
+use Rattle.member.specs.Acceptance.{isBegun}
+use Rattle.member.specs.Member.{valuesOf, memberOf}
+use Rattle.member.specs.Ranges.{RangesOf}
+use Rattle.member.specs.Verdict.{verdict, judged}
+use Rattle.member.specs.declared.member.Member.{Member}
+use Rattle.member.proofs.AcceptanceLaws.{Accepted, accepted-ranges, fill-refused, code-refused, range-refused, none-refused}
+use Rattle.rowcheck.proofs.check.check_kind.Statement.{statement}
+use Rattle.rowcheck.proofs.check.check_kind.Tie as tie
+
+lowest-that-requires : tie.Need-lowest-that-requires
+lowest-that-requires c κs = search needs
+
+-- whether the code finds a joint begun
+abbrev begun : tie.After-lowest-that → Bool
+begun c = not (eqb (c .lowest-that .result) 0)
+
+begun-is : (c : tie.After-lowest-that) → begun c ≡ isBegun (c .before .args .kind) (cellsOf (c .before .args .row))
+begun-is c = ap (λ (n : ℕ). not (eqb n 0)) (c .lowest-that .ensures)
+
+lowest-that-requires-2 : tie.Need-lowest-that-requires-2
+lowest-that-requires-2 c κs = search needs
+
+returns : tie.Need-returns
+returns c = sym (ap judged (fill-refused _ _ (begun-is (c .before .before)) (c .before .lowest-that2 .ensures) (c .if1 .taken)))
+
+lowest-that-requires-3 : tie.Need-lowest-that-requires-3
+lowest-that-requires-3 c κs = search needs
+
+returns-2 : tie.Need-returns-2
+returns-2 c =
+    let fill = c .before .before in
+    sym (ap judged (code-refused _ _ (begun-is (fill .before .before)) (sym (fill .before .lowest-that2 .ensures) ∙ fill .if1 .left) (c .before .lowest-that3 .ensures) (c .if2 .taken)))
+
+lowest-that-requires-4 : tie.Need-lowest-that-requires-4
+lowest-that-requires-4 c κs = search needs
+
+returns-3 : tie.Need-returns-3
+returns-3 c =
+    let code = c .before .before in
+    let fill = code .before .before in
+    sym (
+    ap judged (
+    range-refused _ _ (begun-is (fill .before .before))
+    (sym (fill .before .lowest-that2 .ensures) ∙ fill .if1 .left)
+    (sym (code .before .lowest-that3 .ensures) ∙ code .if2 .left)
+    (c .before .lowest-that4 .ensures)
+    (c .if3 .taken)
+    )
+    )
+
+-- no cell breaks a rule
+accepted : (c : tie.Else3) → let s = c .before .before .before .before .before .before in Accepted (s .before .args .kind) (begun s) (cellsOf (s .before .args .row))
+accepted c =
+    let code = c .before .before in
+    let fill = code .before .before in
+    record {
+      fill = sym (fill .before .lowest-that2 .ensures) ∙ fill .if1 .left;
+      code = sym (code .before .lowest-that3 .ensures) ∙ code .if2 .left;
+      range = sym (c .before .lowest-that4 .ensures) ∙ c .if3 .left;
+    }
+
+values-of-requires : tie.Need-values-of-requires
+values-of-requires c κs = search needs
+
+member-of-requires : tie.Need-member-of-requires
+member-of-requires c κs = search needs
+
+-- the code's member is the row's
+member-is : (c : tie.After-member-of) → let s = c .before .before .before .before .before .before .before .before in
+    c .member-of .result ≡ memberOf (s .before .args .kind) (begun s) (valuesOf (cellsOf (s .before .args .row)))
+member-is c = c .member-of .ensures ∙ ap (memberOf _ _) (c .before .values-of .ensures)
+
+judge-requires : tie.Need-judge-requires
+judge-requires c κs =
+    let s = c .before .before .before .before .before .before .before .before in
+    let row = s .before .args .row in
+    let whole = length-cells row (sym (length-map (row .cells) _) ∙ s .before .good .1 .0 .1 .1 .0 .1 .0 .1) in
+    subst (λ (m : Member). RangesOf (m .kind) m) (sym (member-is c)) (accepted-ranges _ _ whole (begun-is s) (accepted (c .before .before)))
+
+returns-4 : tie.Need-returns-4
+returns-4 c =
+    let m = c .before in
+    let s = m .before .before .before .before .before .before .before .before in
+    ap gives (c .judge .ensures ∙ ap verdict (member-is m)) ∙ sym (ap judged (none-refused _ _ (begun-is s) (accepted (m .before .before))))
+
+pub check-kind-spec : {M : Type 1} → statement M
+check-kind-spec =
+    tie.close
+    (tie.spec
+    lowest-that-requires
+    lowest-that-requires-2
+    returns
+    lowest-that-requires-3
+    returns-2
+    lowest-that-requires-4
+    returns-3
+    values-of-requires
+    member-of-requires
+    judge-requires
+    returns-4)

@@ -1,0 +1,190 @@
+// Which rows are refused, by which cell.
+use cells::row::CELLS;
+use cells::row::Cell;
+use cells::row::Row;
+use member::kind::Kind;
+use member::rule::Rule;
+use sp64::tables::Stress;
+use sp64::tables::duration_factor;
+use sp64::tables::slenderness_limit;
+use sp64::tables::table_strength;
+ghost use mathlib.Core.Path.{_≡_};
+ghost use Rattle.rounding.specs.Range.{In};
+ghost use Rattle.cells.specs.Row.{cellsOf};
+ghost use Rattle.member.specs.Cells.{filled, valueOf, within, required, optional, wanted, compressed, knownRow, knownCode, inRange};
+ghost use Rattle.member.specs.Acceptance.{breaks, lowestThat};
+
+// The ranges of the cells, cell 1 first; a code has none.
+const LEAST: [u64; CELLS] = [
+    0,
+    0,
+    0,
+    0,
+    500,
+    20,
+    60,
+    1,
+    1,
+    0,
+    100,
+    100,
+    0,
+    10,
+    6,
+    1,
+    1,
+    100,
+    100,
+    100,
+    0,
+    100,
+];
+
+const GREATEST: [u64; CELLS] = [
+    18_446_744_073_709_551_615,
+    18_446_744_073_709_551_615,
+    18_446_744_073_709_551_615,
+    60,
+    1000,
+    300,
+    2500,
+    100_000_000,
+    10_000_000_000,
+    100_000_000,
+    20_000,
+    20_000,
+    18_446_744_073_709_551_615,
+    300,
+    40,
+    20,
+    20_000,
+    5000,
+    5000,
+    5000,
+    5000,
+    5000,
+];
+
+fn is_filled(cell: Cell) -> bool
+    ensures { λ r. ⌜ r ≡ filled cell ⌝ }
+{
+    match cell {
+        Cell::Blank => false,
+        Cell::Whole(_) => true,
+    }
+}
+
+pub fn value_of(cell: Cell) -> u64
+    ensures { λ r. ⌜ r ≡ valueOf cell ⌝ }
+{
+    match cell {
+        Cell::Blank => 0,
+        Cell::Whole(value) => value,
+    }
+}
+
+fn is_within(lo: u32, hi: u32, n: u32) -> bool
+    ensures { λ r. ⌜ r ≡ within lo hi n ⌝ }
+{
+    (lo <= n) & (n <= hi)
+}
+
+fn is_required(kind: Kind, n: u32) -> bool
+    ensures { λ r. ⌜ r ≡ required kind n ⌝ }
+{
+    match kind {
+        Kind::Tension => is_within(1, 8, n) | is_within(11, 13, n),
+        Kind::Bending => is_within(1, 7, n) | is_within(9, 10, n),
+        Kind::Compression => is_within(1, 8, n) | is_within(11, 13, n),
+        Kind::CompressionBending => is_within(1, 13, n),
+        Kind::TensionBending => is_within(1, 13, n),
+    }
+}
+
+fn is_optional(kind: Kind, n: u32) -> bool
+    ensures { λ r. ⌜ r ≡ optional kind n ⌝ }
+{
+    match kind {
+        Kind::Tension => is_within(14, 22, n),
+        Kind::Bending => false,
+        Kind::Compression => false,
+        Kind::CompressionBending => false,
+        Kind::TensionBending => false,
+    }
+}
+
+fn is_wanted(kind: Kind, begun: bool, n: u32) -> bool
+    ensures { λ r. ⌜ r ≡ wanted kind begun n ⌝ }
+{
+    is_required(kind, n) | (is_optional(kind, n) & begun)
+}
+
+fn is_compressed(kind: Kind) -> bool
+    ensures { λ r. ⌜ r ≡ compressed kind ⌝ }
+{
+    match kind {
+        Kind::Tension => false,
+        Kind::Bending => false,
+        Kind::Compression => true,
+        Kind::CompressionBending => true,
+        Kind::TensionBending => false,
+    }
+}
+
+fn is_known_row(kind: Kind, row: u64) -> bool
+    ensures { λ r. ⌜ r ≡ knownRow kind row ⌝ }
+{
+    (1 <= slenderness_limit(row)) & ((row <= 3) == is_compressed(kind))
+}
+
+fn is_known_code(kind: Kind, n: u32, code: u64) -> bool
+    ensures { λ r. ⌜ r ≡ knownCode kind n code ⌝ }
+{
+    match n {
+        2 => 1 <= table_strength(Stress::Bending, code),
+        3 => 1 <= duration_factor(code),
+        13 => is_known_row(kind, code),
+        _ => true,
+    }
+}
+
+fn is_in_range(n: u32, value: u64) -> bool
+    requires { ⌜ In 1 22 n ⌝ }
+    ensures { λ r. ⌜ r ≡ inRange n value ⌝ }
+{
+    let i = (n - 1) as usize;
+    (LEAST[i] <= value) & (value <= GREATEST[i])
+}
+
+// Whether cell n breaks a rule.
+fn is_broken(rule: Rule, kind: Kind, begun: bool, n: u32, cell: Cell) -> bool
+    requires { ⌜ In 1 22 n ⌝ }
+    ensures { λ r. ⌜ r ≡ breaks rule kind begun n cell ⌝ }
+{
+    let filled = is_filled(cell);
+    let value = value_of(cell);
+    match rule {
+        Rule::Begin => filled & is_optional(kind, n),
+        Rule::Fill => filled != is_wanted(kind, begun, n),
+        Rule::Code => filled & !is_known_code(kind, n, value),
+        Rule::Range => filled & !is_in_range(n, value),
+    }
+}
+
+// The lowest cell that breaks a rule, 0 where none does.
+pub fn lowest_that(rule: Rule, kind: Kind, begun: bool, row: Row) -> u32
+    ensures { λ r. ⌜ r ≡ lowestThat rule kind begun (cellsOf row) ⌝ }
+{
+    let cells = row.cells;
+    let mut i: usize = 0;
+    while i < CELLS {
+        let slot = cells[i];
+        let cell = slot.cell;
+        let n = (i + 1) as u32;
+        if is_broken(rule, kind, begun, n, cell) {
+            return n;
+        }
+        i = i + 1;
+    }
+    0
+}
