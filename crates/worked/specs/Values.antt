@@ -1,0 +1,87 @@
+-- The values of a member that document 01's worked rows name, each rounded and, beside it, unrounded.
+-- Assumes nothing.
+use Prim.Native.Nat.{ℕ}
+use Rattle.rounding.specs.Fraction.{Fraction, _⊘_}
+use Rattle.sp64.specs.Buckling.{bucklingPhi, exactBucklingPhi, exactBucklingCapacity}
+use Rattle.sp64.specs.Capacity.{exactNetTensionCapacity, NR, exactNR, MR, exactMR}
+use Rattle.sp64.specs.Joint.{leastTerm, dowelCapacity, columns, exactTerm}
+use Rattle.sp64.specs.Strength.{designStrength, exactStrength}
+use Rattle.sp64.specs.declared.tables.Stress.{Stress}
+use Rattle.sp64.specs.declared.tables.Stress.the-variants.{Compression, Tension}
+use Rattle.member.specs.Checks.{Strength}
+use Rattle.member.specs.Member.{countOf}
+use Rattle.member.specs.Unrounded.{forcesOf}
+use Rattle.member.specs.Verdict.{utilisationOf}
+use Rattle.member.specs.declared.member.Member.{Member}
+
+-- R of a stress
+abbrev pub strengthIn : Stress → Member → ℕ
+strengthIn stress m = designStrength stress (m .material)
+
+-- R of a stress, unrounded
+abbrev pub exactStrengthIn : Stress → Member → Fraction
+exactStrengthIn stress m = exactStrength stress (m .material)
+
+-- MR, the capacity of check 7
+abbrev pub momentResistance : Member → ℕ
+momentResistance m = MR (m .width) (m .height) (m .material)
+
+-- MR, unrounded
+abbrev pub exactMomentResistance : Member → Fraction
+exactMomentResistance m = exactMR (m .width) (m .height) (m .material)
+
+-- NR in compression
+abbrev pub axialResistance : Member → ℕ
+axialResistance m = NR Compression (m .width) (m .height) (m .material)
+
+-- NR in compression, unrounded
+abbrev pub exactAxialResistance : Member → Fraction
+exactAxialResistance m = exactNR Compression (m .width) (m .height) (m .material)
+
+-- φ of check 9, across the height
+abbrev pub phiAcrossHeight : Member → ℕ
+phiAcrossHeight m = bucklingPhi (m .lh) (m .height)
+
+-- φ of check 9, unrounded
+abbrev pub exactPhiAcrossHeight : Member → Fraction
+exactPhiAcrossHeight m = exactBucklingPhi (m .lh) (m .height)
+
+-- φ of check 10, across the width
+abbrev pub phiAcrossWidth : Member → ℕ
+phiAcrossWidth m = bucklingPhi (m .lb) (m .width)
+
+-- φ of check 10, unrounded
+abbrev pub exactPhiAcrossWidth : Member → Fraction
+exactPhiAcrossWidth m = exactBucklingPhi (m .lb) (m .width)
+
+-- g, the least of a dowel's three terms; nothing in it is rounded
+abbrev pub dowelTerm : Member → ℕ
+dowelTerm m = leastTerm (m .width) (m .joint)
+
+-- T, what a dowel carries in one shear plane
+abbrev pub dowelResistance : Member → ℕ
+dowelResistance m = dowelCapacity (m .width) (m .joint) (m .material)
+
+-- T, unrounded
+abbrev pub exactDowelResistance : Member → Fraction
+exactDowelResistance m = exactTerm (dowelTerm m) (m .material)
+
+-- the columns of the joint's dowels
+abbrev pub columnsOf : Member → ℕ
+columnsOf m = columns (countOf m) (m .joint .across)
+
+-- the utilisation of a strength check, also of one that does not govern
+abbrev pub utilisationIn : Strength → Member → ℕ
+utilisationIn check m = utilisationOf m check
+
+-- check 7, unrounded: the moment to its capacity
+abbrev pub bendingRatio : Member → Fraction
+bendingRatio m = forcesOf m .M ⊘ exactMomentResistance m
+
+-- check 10, unrounded: the axial force to its capacity
+abbrev pub bucklingRatio : Member → Fraction
+bucklingRatio m = forcesOf m .N ⊘ exactBucklingCapacity (exactAxialResistance m) (exactPhiAcrossWidth m)
+
+-- check 5 with a joint, unrounded: the axial force to its capacity
+abbrev pub netTensionRatio : Member → Fraction
+netTensionRatio m = forcesOf m .N ⊘ exactNetTensionCapacity (m .width) (m .height) (m .joint) (exactStrengthIn Tension m)
