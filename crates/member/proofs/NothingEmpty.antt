@@ -15,7 +15,7 @@ use Rattle.cells.specs.Refusal.{gives}
 use Rattle.cells.specs.Row.{cellCount}
 use Rattle.cells.specs.declared.row.Cell.{Cell}
 use Rattle.sp64.specs.Buckling.{stocky, exactSlenderPhi, exactBucklingPhi, exactBucklingCapacity, exactEulerCapacity}
-use Rattle.sp64.specs.Capacity.{exactNetTensionCapacity, exactSidePieceCapacity, exactShearCapacity, exactNR, exactMR}
+use Rattle.sp64.specs.Capacity.{exactNetTensionCapacity, exactSidePieceCapacity, exactShearCapacity}
 use Rattle.sp64.specs.Combined.{exactAxialShare, exactSecondOrderMoment}
 use Rattle.sp64.specs.Joint.{JointRanges, Layout, coreCrushing, sideCrushing, dowelBending, exactTerm}
 use Rattle.sp64.specs.Ranges.{InLength, InLimit, InSide}
@@ -27,7 +27,7 @@ use Rattle.sp64.proofs.Denominators.{Proper, scaled-real, net-height-kept, stoc
 use Rattle.member.specs.Acceptance.{accept}
 use Rattle.member.specs.Checks.{Check, YesNo, Strength, yesNo, strength, yesNoOf, strengthOf, omitted, Among, Has, layout, slendernessH, slendernessB, netTension, sidePieces, bending, shear, bucklingH, bucklingB, compressionBending, tensionBending}
 use Rattle.member.specs.Demand3.{LayoutOrSlenderness}
-use Rattle.member.specs.Member.{limitOf}
+use Rattle.member.specs.Member.{limitOf, exactNRof, exactMRof}
 use Rattle.member.specs.Ranges.{Sized, Braced, RangesOf}
 use Rattle.member.specs.Unrounded.{Forces, forcesOf, times, Holds}
 use Rattle.member.specs.declared.kind.Kind.{Kind}
@@ -88,22 +88,22 @@ ProperAt m f netTension =
     ProperRatio (f .N)
     (cond (m .jointed)
     (exactNetTensionCapacity (m .width) (m .height) (m .joint) (exactStrength tensionStress (m .material)))
-    (exactNR tensionStress (m .width) (m .height) (m .material)))
+    (exactNRof tensionStress m))
     × (m .jointed ≡ true → HeightLeft m)
 ProperAt m f sidePieces =
     ProperRatio (f .N) (exactSidePieceCapacity (m .height) (m .joint) (exactStrength tensionStress (m .material))) × HeightLeft m
-ProperAt m f bending = ProperRatio (f .M) (exactMR (m .width) (m .height) (m .material))
+ProperAt m f bending = ProperRatio (f .M) (exactMRof m)
 ProperAt m f shear = ProperRatio (f .Q) (exactShearCapacity (m .width) (m .height) (exactStrength shearStress (m .material)))
-ProperAt m f bucklingH = ProperBuckling (f .N) (exactNR compressionStress (m .width) (m .height) (m .material)) (m .lh) (m .height)
-ProperAt m f bucklingB = ProperBuckling (f .N) (exactNR compressionStress (m .width) (m .height) (m .material)) (m .lb) (m .width)
+ProperAt m f bucklingH = ProperBuckling (f .N) (exactNRof compressionStress m) (m .lh) (m .height)
+ProperAt m f bucklingB = ProperBuckling (f .N) (exactNRof compressionStress m) (m .lb) (m .width)
 ProperAt m f compressionBending =
     Proper (exactSlenderPhi (m .lh) (m .height))
     × ProperCompressionBending (f .N) (f .M)
-    (exactNR compressionStress (m .width) (m .height) (m .material))
-    (exactEulerCapacity (exactNR compressionStress (m .width) (m .height) (m .material)) (m .lh) (m .height))
-    (exactMR (m .width) (m .height) (m .material))
+    (exactNRof compressionStress m)
+    (exactEulerCapacity (exactNRof compressionStress m) (m .lh) (m .height))
+    (exactMRof m)
 ProperAt m f tensionBending =
-    ProperCombined (f .N) (exactNR tensionStress (m .width) (m .height) (m .material)) (f .M) (exactMR (m .width) (m .height) (m .material))
+    ProperCombined (f .N) (exactNRof tensionStress m) (f .M) (exactMRof m)
 
 -- the terms of a dowel, and the dowels of a column, by which the count is divided
 pub record ProperJoint (m : Member) : Type 0 where
@@ -126,7 +126,7 @@ module _ (m : Member) (f : Forces) (real : Real f) where
   )
     where
       by : (t : Bool) → m .jointed ≡ t
-          → Proper (cond t (exactNetTensionCapacity (m .width) (m .height) (m .joint) (exactStrength tensionStress (m .material))) (exactNR tensionStress (m .width) (m .height) (m .material)))
+          → Proper (cond t (exactNetTensionCapacity (m .width) (m .height) (m .joint) (exactStrength tensionStress (m .material))) (exactNRof tensionStress m))
       by true e = net-tension-proper (sized .material) (sized .section) (laid e .0) (laid e .1)
       by false e = tension-proper (sized .material) (sized .section)
 
@@ -140,7 +140,7 @@ module _ (m : Member) (f : Forces) (real : Real f) where
 
     -- checks 9 and 10, where slenderness holds
     buckling : {L s : ℕ} → InLength L → InSide s → InLimit (limitOf m) → Slenderness (limitOf m) L s
-        → ProperBuckling (f .N) (exactNR compressionStress (m .width) (m .height) (m .material)) L s
+        → ProperBuckling (f .N) (exactNRof compressionStress m) L s
     buckling {L} {s} length side limit slender =
         record {
           ratio = record { force-real = real .N; capacity-proper = buckling-proper (sized .material) (sized .section) length side limit slender };
@@ -154,7 +154,7 @@ module _ (m : Member) (f : Forces) (real : Real f) where
     combined-compression braced slender =
         let N = f .N in
         let M = f .M in
-        let NR = exactNR compressionStress (m .width) (m .height) (m .material) in
+        let NR = exactNRof compressionStress m in
         let C = exactEulerCapacity NR (m .lh) (m .height) in
         let side : InSide (m .height) = in-wide 20 2500 (lit≤ tt) (lit≤ tt) (sized .section .height) in
         let axial : ProperRatio N NR = record { force-real = real .N; capacity-proper = compression-proper (sized .material) (sized .section) } in

@@ -22,10 +22,6 @@ abbrev pub valueOf : Cell → ℕ
 valueOf Blank = 0
 valueOf (Whole value) = value
 
--- the cell of a number, cell 1 first
-abbrev pub cellAt : List Cell → ℕ → Cell
-cellAt cells n = getD cells (n - 1) Blank
-
 -- from lo to hi
 abbrev pub within : ℕ → ℕ → ℕ → Bool
 within lo hi n = leb lo n && leb n hi
@@ -80,23 +76,31 @@ anyCode = (0, 18446744073709551615)
 -- the least and the greatest value of each cell, cell 1 first
 abbrev pub ranges : List (ℕ × ℕ)
 ranges =
+    -- 1 to 3: kind, grade, regime
     anyCode ∷
     anyCode ∷
     anyCode ∷
+    -- 4 and 5: wood moisture in percent, office factor in thousandths
     (0, 60) ∷
     (500, 1000) ∷
+    -- 6 and 7: width b and height h, in mm
     (20, 300) ∷
     (60, 2500) ∷
+    -- 8 to 10: axial force N in N, moment M in N·mm, shear force Q in N
     (1, 100000000) ∷
     (1, 10000000000) ∷
     (0, 100000000) ∷
+    -- 11 and 12: effective lengths Lh and Lb, in mm
     (100, 20000) ∷
     (100, 20000) ∷
+    -- 13: row of Table 16
     anyCode ∷
+    -- 14 to 17: side piece thickness a, dowel diameter d, dowels across the height r, joint length available
     (10, 300) ∷
     (6, 40) ∷
     (1, 20) ∷
     (1, 20000) ∷
+    -- 18 to 22: kc, ka, kb, ke, km, in hundredths of N/mm²
     (100, 5000) ∷
     (100, 5000) ∷
     (100, 5000) ∷

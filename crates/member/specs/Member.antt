@@ -5,10 +5,13 @@ use mathlib.Core.Bool.{Bool, cond}
 use mathlib.Core.List.{List, map}
 use lib.ListN.{getD}
 use Rattle.cells.specs.declared.row.Cell.{Cell}
+use Rattle.rounding.specs.Fraction.{Fraction}
+use Rattle.sp64.specs.Capacity.{NR, exactNR, MR, exactMR}
 use Rattle.sp64.specs.Joint.{jointCount}
 use Rattle.sp64.specs.Strength.{materialOf}
 use Rattle.sp64.specs.Tables.{slendernessLimit}
 use Rattle.sp64.specs.declared.joint.Joint.{Joint}
+use Rattle.sp64.specs.declared.tables.Stress.{Stress}
 use Rattle.member.specs.Cells.{valueOf}
 use Rattle.member.specs.declared.kind.Kind.{Kind}
 use Rattle.member.specs.declared.member.Member.{Member}
@@ -61,3 +64,19 @@ limitOf m = slendernessLimit (m .table16)
 -- the dowel count, 0 without a joint
 abbrev pub countOf : Member → ℕ
 countOf m = cond (m .jointed) (jointCount (m .force) (m .width) (m .joint) (m .material)) 0
+
+-- NR of the member with the strength of a stress
+abbrev pub NRof : Stress → Member → ℕ
+NRof stress m = NR stress (m .width) (m .height) (m .material)
+
+-- the same, unrounded
+abbrev pub exactNRof : Stress → Member → Fraction
+exactNRof stress m = exactNR stress (m .width) (m .height) (m .material)
+
+-- MR of the member
+abbrev pub MRof : Member → ℕ
+MRof m = MR (m .width) (m .height) (m .material)
+
+-- the same, unrounded
+abbrev pub exactMRof : Member → Fraction
+exactMRof m = exactMR (m .width) (m .height) (m .material)

@@ -4,14 +4,14 @@ use Prim.Native.Nat.{ℕ}
 use mathlib.Core.Bool.{cond}
 use Rattle.rounding.specs.Fraction.{Fraction, whole, scaled, _≼_}
 use Rattle.sp64.specs.Buckling.{exactBucklingPhi, exactBucklingCapacity, exactEulerCapacity}
-use Rattle.sp64.specs.Capacity.{exactNetTensionCapacity, exactSidePieceCapacity, exactShearCapacity, exactNR, exactMR}
+use Rattle.sp64.specs.Capacity.{exactNetTensionCapacity, exactSidePieceCapacity, exactShearCapacity}
 use Rattle.sp64.specs.Combined.{ExactCompressionBending, ExactTensionBending}
 use Rattle.sp64.specs.Joint.{Layout, ExactJointLength}
 use Rattle.sp64.specs.Slenderness.{Slenderness}
 use Rattle.sp64.specs.Strength.{exactStrength}
 use Rattle.sp64.specs.declared.tables.Stress.the-variants.{Compression, Tension, Shear}
 use Rattle.member.specs.Checks.{Check, yesNo, strength, layout, slendernessH, slendernessB, jointLength, netTension, sidePieces, bending, shear, bucklingH, bucklingB, compressionBending, tensionBending}
-use Rattle.member.specs.Member.{limitOf}
+use Rattle.member.specs.Member.{limitOf, exactNRof, exactMRof}
 use Rattle.member.specs.declared.member.Member.{Member}
 
 -- N, M and Q as exact values
@@ -38,18 +38,18 @@ Holds m f (strength netTension) =
     f .N
     ≼ cond (m .jointed)
     (exactNetTensionCapacity (m .width) (m .height) (m .joint) (exactStrength Tension (m .material)))
-    (exactNR Tension (m .width) (m .height) (m .material))
+    (exactNRof Tension m)
 Holds m f (strength sidePieces) = f .N ≼ exactSidePieceCapacity (m .height) (m .joint) (exactStrength Tension (m .material))
-Holds m f (strength bending) = f .M ≼ exactMR (m .width) (m .height) (m .material)
+Holds m f (strength bending) = f .M ≼ exactMRof m
 Holds m f (strength shear) = f .Q ≼ exactShearCapacity (m .width) (m .height) (exactStrength Shear (m .material))
 Holds m f (strength bucklingH) =
-    f .N ≼ exactBucklingCapacity (exactNR Compression (m .width) (m .height) (m .material)) (exactBucklingPhi (m .lh) (m .height))
+    f .N ≼ exactBucklingCapacity (exactNRof Compression m) (exactBucklingPhi (m .lh) (m .height))
 Holds m f (strength bucklingB) =
-    f .N ≼ exactBucklingCapacity (exactNR Compression (m .width) (m .height) (m .material)) (exactBucklingPhi (m .lb) (m .width))
+    f .N ≼ exactBucklingCapacity (exactNRof Compression m) (exactBucklingPhi (m .lb) (m .width))
 Holds m f (strength compressionBending) =
     ExactCompressionBending (f .N) (f .M)
-    (exactNR Compression (m .width) (m .height) (m .material))
-    (exactEulerCapacity (exactNR Compression (m .width) (m .height) (m .material)) (m .lh) (m .height))
-    (exactMR (m .width) (m .height) (m .material))
+    (exactNRof Compression m)
+    (exactEulerCapacity (exactNRof Compression m) (m .lh) (m .height))
+    (exactMRof m)
 Holds m f (strength tensionBending) =
-    ExactTensionBending (f .N) (f .M) (exactNR Tension (m .width) (m .height) (m .material)) (exactMR (m .width) (m .height) (m .material))
+    ExactTensionBending (f .N) (f .M) (exactNRof Tension m) (exactMRof m)

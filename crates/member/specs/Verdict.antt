@@ -6,7 +6,7 @@ use mathlib.Core.List.{List, [], _∷_}
 use lib.Dec.{leb}
 use Rattle.rounding.specs.Utilisation.{utilisation}
 use Rattle.sp64.specs.Buckling.{bucklingPhi, bucklingCapacity, eulerCapacity}
-use Rattle.sp64.specs.Capacity.{netTensionCapacity, sidePieceCapacity, shearCapacity, NR, MR}
+use Rattle.sp64.specs.Capacity.{netTensionCapacity, sidePieceCapacity, shearCapacity}
 use Rattle.sp64.specs.Combined.{compressionBending as axialWithMoment, tensionBending as tensionWithMoment}
 use Rattle.sp64.specs.Joint.{layoutHolds, jointLengthHolds}
 use Rattle.sp64.specs.Slenderness.{slendernessHolds}
@@ -16,7 +16,7 @@ use Rattle.cells.specs.Refusal.{Result, gives, refuses, refusedBy}
 use Rattle.cells.specs.declared.row.Cell.{Cell}
 use Rattle.member.specs.Acceptance.{accept}
 use Rattle.member.specs.Checks.{YesNo, Strength, yesNo, strength, number, yesNoOf, strengthOf, omitted, layout, slendernessH, slendernessB, jointLength, netTension, sidePieces, bending, shear, bucklingH, bucklingB, compressionBending, tensionBending}
-use Rattle.member.specs.Member.{limitOf, countOf}
+use Rattle.member.specs.Member.{limitOf, countOf, NRof, MRof}
 use Rattle.member.specs.declared.kind.Kind.{Kind}
 use Rattle.member.specs.declared.member.Member.{Member}
 use Rattle.member.specs.declared.verdict.Answer.{Answer}
@@ -37,21 +37,21 @@ utilisationOf m netTension =
     utilisation (m .force)
     (cond (m .jointed)
     (netTensionCapacity (m .width) (m .height) (m .joint) (designStrength Tension (m .material)))
-    (NR Tension (m .width) (m .height) (m .material)))
+    (NRof Tension m))
 utilisationOf m sidePieces = utilisation (m .force) (sidePieceCapacity (m .height) (m .joint) (designStrength Tension (m .material)))
-utilisationOf m bending = utilisation (m .moment) (MR (m .width) (m .height) (m .material))
+utilisationOf m bending = utilisation (m .moment) (MRof m)
 utilisationOf m shear = utilisation (m .shear) (shearCapacity (m .width) (m .height) (designStrength Shear (m .material)))
 utilisationOf m bucklingH =
-    utilisation (m .force) (bucklingCapacity (NR Compression (m .width) (m .height) (m .material)) (bucklingPhi (m .lh) (m .height)))
+    utilisation (m .force) (bucklingCapacity (NRof Compression m) (bucklingPhi (m .lh) (m .height)))
 utilisationOf m bucklingB =
-    utilisation (m .force) (bucklingCapacity (NR Compression (m .width) (m .height) (m .material)) (bucklingPhi (m .lb) (m .width)))
+    utilisation (m .force) (bucklingCapacity (NRof Compression m) (bucklingPhi (m .lb) (m .width)))
 utilisationOf m compressionBending =
     axialWithMoment (m .force) (m .moment)
-    (NR Compression (m .width) (m .height) (m .material))
-    (eulerCapacity (NR Compression (m .width) (m .height) (m .material)) (m .lh) (m .height))
-    (MR (m .width) (m .height) (m .material))
+    (NRof Compression m)
+    (eulerCapacity (NRof Compression m) (m .lh) (m .height))
+    (MRof m)
 utilisationOf m tensionBending =
-    tensionWithMoment (m .force) (m .moment) (NR Tension (m .width) (m .height) (m .material)) (MR (m .width) (m .height) (m .material))
+    tensionWithMoment (m .force) (m .moment) (NRof Tension m) (MRof m)
 
 -- a strength check with its utilisation
 abbrev pub used : Member → Strength → Governing
@@ -61,7 +61,7 @@ used m c = record { check = number (strength c); utilisation = utilisationOf m c
 abbrev pub greaterOf : Governing → Governing → Governing
 greaterOf x y = cond (leb (y .utilisation) (x .utilisation)) x y
 
--- of the checks that the row has, the one of greatest utilisation, the lowest number among equals
+-- of the checks that the row has, the one of greatest utilisation, the lowest number among equals; check 0 where it has none, which no kind has
 unfoldable pub governing : Member → List Strength → Governing
 governing m [] = record { check = 0; utilisation = 0 }
 governing m (c ∷ checks) = cond (omitted m (strength c)) (governing m checks) (greaterOf (used m c) (governing m checks))

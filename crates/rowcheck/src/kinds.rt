@@ -28,11 +28,11 @@ use sp64::tables::slenderness_limit;
 ghost use mathlib.Core.Path.{_≡_};
 ghost use mathlib.Core.Bool.{true, false, _||_};
 ghost use Rattle.rounding.specs.Range.{Value};
-ghost use Rattle.sp64.specs.Capacity.{NR, MR};
 ghost use Rattle.sp64.specs.Joint.{JointRanges};
 ghost use Rattle.sp64.specs.Ranges.{InForce, InMoment, InNR, InMR};
 ghost use Rattle.sp64.specs.declared.tables.Stress.the-variants.{Compression, Tension};
 ghost use Rattle.member.specs.Checks.{yesNo, slendernessH, slendernessB, bending, shear, bucklingH, bucklingB, compressionBending, tensionBending, omitted};
+ghost use Rattle.member.specs.Member.{NRof, MRof};
 ghost use Rattle.member.specs.Ranges.{Sized, Braced, RangesOf};
 ghost use Rattle.member.specs.Verdict.{holds, used, verdictBy, verdict};
 ghost use Rattle.member.specs.declared.kind.Kind.the-variants.{Tension as kind1, Bending as kind2, Compression as kind3, CompressionBending as kind4, TensionBending as kind5};
@@ -56,7 +56,7 @@ fn slender_across_width(m: Member) -> bool
 // NR in tension.
 fn tension_resistance(m: Member) -> u64
     requires { ⌜ Sized m ⌝ }
-    ensures { λ r. ⌜ Value InNR (NR Tension (m .width) (m .height) (m .material)) r ⌝ }
+    ensures { λ r. ⌜ Value InNR (NRof Tension m) r ⌝ }
 {
     axial_capacity(
         m.width,
@@ -68,7 +68,7 @@ fn tension_resistance(m: Member) -> u64
 // NR in compression.
 fn compression_resistance(m: Member) -> u64
     requires { ⌜ Sized m ⌝ }
-    ensures { λ r. ⌜ Value InNR (NR Compression (m .width) (m .height) (m .material)) r ⌝ }
+    ensures { λ r. ⌜ Value InNR (NRof Compression m) r ⌝ }
 {
     axial_capacity(
         m.width,
@@ -80,7 +80,7 @@ fn compression_resistance(m: Member) -> u64
 // MR.
 fn moment_resistance(m: Member) -> u64
     requires { ⌜ Sized m ⌝ }
-    ensures { λ r. ⌜ Value InMR (MR (m .width) (m .height) (m .material)) r ⌝ }
+    ensures { λ r. ⌜ Value InMR (MRof m) r ⌝ }
 {
     bending_capacity(
         m.width,
@@ -108,7 +108,7 @@ fn shear_check(m: Member) -> Governing
 
 // Check 9, with nr in compression.
 fn buckling_across_height(m: Member, nr: u64) -> Governing
-    requires { ⌜ Sized m × Braced m × Value InNR (NR Compression (m .width) (m .height) (m .material)) nr ⌝ }
+    requires { ⌜ Sized m × Braced m × Value InNR (NRof Compression m) nr ⌝ }
     ensures { λ r. ⌜ r ≡ used m bucklingH ⌝ }
 {
     against(
@@ -120,7 +120,7 @@ fn buckling_across_height(m: Member, nr: u64) -> Governing
 
 // Check 10, with nr in compression.
 fn buckling_across_width(m: Member, nr: u64) -> Governing
-    requires { ⌜ Sized m × Braced m × Value InNR (NR Compression (m .width) (m .height) (m .material)) nr ⌝ }
+    requires { ⌜ Sized m × Braced m × Value InNR (NRof Compression m) nr ⌝ }
     ensures { λ r. ⌜ r ≡ used m bucklingB ⌝ }
 {
     against(
@@ -132,7 +132,7 @@ fn buckling_across_width(m: Member, nr: u64) -> Governing
 
 // Check 11 of kind 4, with nr in compression.
 fn compression_bending_check(m: Member, nr: u64) -> Governing
-    requires { ⌜ Sized m × Braced m × InForce (m .force) × InMoment (m .moment) × Value InNR (NR Compression (m .width) (m .height) (m .material)) nr ⌝ }
+    requires { ⌜ Sized m × Braced m × InForce (m .force) × InMoment (m .moment) × Value InNR (NRof Compression m) nr ⌝ }
     ensures { λ r. ⌜ r ≡ used m compressionBending ⌝ }
 {
     let c = euler_capacity(nr, m.lh, m.height);

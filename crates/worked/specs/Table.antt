@@ -4,10 +4,10 @@ use mathlib.Core.List.{List, [], _∷_}
 use Rattle.rounding.specs.Fraction.{fraction, whole, _⊕_}
 use Rattle.sp64.specs.declared.tables.Stress.the-variants.{Bending, Compression, Tension}
 use Rattle.member.specs.Checks.{shear}
-use Rattle.member.specs.Member.{countOf}
+use Rattle.member.specs.Member.{countOf, NRof, exactNRof, MRof, exactMRof}
 use Rattle.worked.specs.Cases.{Case, verdict, figure, exact, packs, pass, fail}
 use Rattle.member.specs.WorkedRows.{rowA, rowB, rowC, rowD, rowE, rowF, rowG, rowH}
-use Rattle.worked.specs.Values.{strengthIn, exactStrengthIn, momentResistance, exactMomentResistance, axialResistance, exactAxialResistance, phiAcrossHeight, exactPhiAcrossHeight, phiAcrossWidth, exactPhiAcrossWidth, dowelTerm, dowelResistance, exactDowelResistance, columnsOf, utilisationIn, bendingRatio, bucklingRatio, netTensionRatio}
+use Rattle.worked.specs.Values.{strengthIn, exactStrengthIn, phiAcrossHeight, exactPhiAcrossHeight, phiAcrossWidth, exactPhiAcrossWidth, dowelTerm, dowelResistance, exactDowelResistance, columnsOf, utilisationIn, bendingRatio, bucklingRatio, netTensionRatio}
 
 -- rows A to H
 unfoldable pub table : List Case
@@ -16,16 +16,16 @@ table =
     verdict rowA (pass 7 690668 0) ∷
     figure rowA (strengthIn Bending) 25740 ∷
     exact rowA (exactStrengthIn Bending) (whole 25740) ∷
-    figure rowA momentResistance 28957500 ∷
-    exact rowA exactMomentResistance (whole 28957500) ∷
+    figure rowA MRof 28957500 ∷
+    exact rowA exactMRof (whole 28957500) ∷
     exact rowA bendingRatio (fraction 8000 11583) ∷
     figure rowA (utilisationIn shear) 492733 ∷
     -- B: buckling across the width governs
     verdict rowB (pass 10 315122 0) ∷
     figure rowB (strengthIn Compression) 12879 ∷
     exact rowB (exactStrengthIn Compression) (whole 12879) ∷
-    figure rowB axialResistance 257580 ∷
-    exact rowB exactAxialResistance (whole 257580) ∷
+    figure rowB (NRof Compression) 257580 ∷
+    exact rowB (exactNRof Compression) (whole 257580) ∷
     figure rowB phiAcrossHeight 784000 ∷
     exact rowB exactPhiAcrossHeight (whole 784000) ∷
     figure rowB phiAcrossWidth 616000 ∷

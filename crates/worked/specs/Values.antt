@@ -3,13 +3,13 @@
 use Prim.Native.Nat.{ℕ}
 use Rattle.rounding.specs.Fraction.{Fraction, _⊘_}
 use Rattle.sp64.specs.Buckling.{bucklingPhi, exactBucklingPhi, exactBucklingCapacity}
-use Rattle.sp64.specs.Capacity.{exactNetTensionCapacity, NR, exactNR, MR, exactMR}
+use Rattle.sp64.specs.Capacity.{exactNetTensionCapacity}
 use Rattle.sp64.specs.Joint.{leastTerm, dowelCapacity, columns, exactTerm}
 use Rattle.sp64.specs.Strength.{designStrength, exactStrength}
 use Rattle.sp64.specs.declared.tables.Stress.{Stress}
 use Rattle.sp64.specs.declared.tables.Stress.the-variants.{Compression, Tension}
 use Rattle.member.specs.Checks.{Strength}
-use Rattle.member.specs.Member.{countOf}
+use Rattle.member.specs.Member.{countOf, exactNRof, exactMRof}
 use Rattle.member.specs.Unrounded.{forcesOf}
 use Rattle.member.specs.Verdict.{utilisationOf}
 use Rattle.member.specs.declared.member.Member.{Member}
@@ -21,22 +21,6 @@ strengthIn stress m = designStrength stress (m .material)
 -- R of a stress, unrounded
 abbrev pub exactStrengthIn : Stress → Member → Fraction
 exactStrengthIn stress m = exactStrength stress (m .material)
-
--- MR, the capacity of check 7
-abbrev pub momentResistance : Member → ℕ
-momentResistance m = MR (m .width) (m .height) (m .material)
-
--- MR, unrounded
-abbrev pub exactMomentResistance : Member → Fraction
-exactMomentResistance m = exactMR (m .width) (m .height) (m .material)
-
--- NR in compression
-abbrev pub axialResistance : Member → ℕ
-axialResistance m = NR Compression (m .width) (m .height) (m .material)
-
--- NR in compression, unrounded
-abbrev pub exactAxialResistance : Member → Fraction
-exactAxialResistance m = exactNR Compression (m .width) (m .height) (m .material)
 
 -- φ of check 9, across the height
 abbrev pub phiAcrossHeight : Member → ℕ
@@ -76,11 +60,11 @@ utilisationIn check m = utilisationOf m check
 
 -- check 7, unrounded: the moment to its capacity
 abbrev pub bendingRatio : Member → Fraction
-bendingRatio m = forcesOf m .M ⊘ exactMomentResistance m
+bendingRatio m = forcesOf m .M ⊘ exactMRof m
 
 -- check 10, unrounded: the axial force to its capacity
 abbrev pub bucklingRatio : Member → Fraction
-bucklingRatio m = forcesOf m .N ⊘ exactBucklingCapacity (exactAxialResistance m) (exactPhiAcrossWidth m)
+bucklingRatio m = forcesOf m .N ⊘ exactBucklingCapacity (exactNRof Compression m) (exactPhiAcrossWidth m)
 
 -- check 5 with a joint, unrounded: the axial force to its capacity
 abbrev pub netTensionRatio : Member → Fraction
