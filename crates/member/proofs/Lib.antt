@@ -7,3 +7,4 @@ pub mod DemandRefutes
 pub mod Lighter
 pub mod DemandMeaning
 pub mod NothingEmpty
+pub mod RefusalMeaning

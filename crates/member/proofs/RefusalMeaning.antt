@@ -1,0 +1,99 @@
+-- What a refusal of the row check says: which rule, in which order, and that the cell named is the lowest that breaks it.
+-- Assumes nothing.
+use Prim.Native.Nat.{ℕ, _+_, _<_}
+use native.Mathlib.Omega.{arith}
+use mathlib.Core.Path.{_≡_, refl, sym, subst}
+use mathlib.Core.Logic.{_⊎_, inl, inr}
+use mathlib.Core.Bool.{true, false}
+use mathlib.Core.List.{List}
+use lib.ListN.{length, getD}
+use Rattle.cells.specs.Refusal.{Result, gives, refuses}
+use Rattle.cells.specs.declared.row.Cell.{Cell}
+use Rattle.cells.specs.declared.row.Cell.the-variants.{Blank, Whole}
+use Rattle.cells.proofs.LowestLaws.{Passes, FailsAt, lowest-meaning}
+use Rattle.member.specs.Acceptance.{breaks, lowestThat, isBegun, acceptKind, acceptCode, acceptFirst, accept}
+use Rattle.member.specs.Kind.{kindOf}
+use Rattle.member.specs.declared.kind.Kind.{Kind}
+use Rattle.member.specs.declared.kind.KindCode.{KindCode}
+use Rattle.member.specs.declared.kind.KindCode.the-variants.{Known, Unknown}
+use Rattle.member.specs.declared.member.Member.{Member}
+use Rattle.member.specs.declared.rule.Rule.{Rule}
+use Rattle.member.specs.declared.rule.Rule.the-variants.{Fill, Code, Range}
+use Rattle.member.proofs.AcceptanceLaws.{fill-refused, code-refused, range-refused, none-refused}
+
+module _ (kind : Kind) (cells : List Cell) where
+  -- no cell breaks the rule
+  abbrev pub Kept : Rule → Type 0
+  Kept rule = (k : ℕ) → k < length cells → breaks rule kind (isBegun kind cells) (1 + k) (getD cells k Blank) ≡ false
+
+  -- the cell at place k, number 1 + k, breaks the rule, and no lower one does
+  pub record Named (rule : Rule) (cell : ℕ) : Type 0 where
+    pub place : ℕ
+    pub is : cell ≡ 1 + place
+    pub inside : place < length cells
+    pub broken : breaks rule kind (isBegun kind cells) (1 + place) (getD cells place Blank) ≡ true
+    pub lower : (j : ℕ) → j < place → breaks rule kind (isBegun kind cells) (1 + j) (getD cells j Blank) ≡ false
+
+  -- refusal 2 names the lowest misfilled cell; 3, where none is misfilled, the lowest unknown code; 4, where neither is, the lowest value out of range
+  abbrev pub Meaning : Result Member → Type 0
+  Meaning (gives m) = Kept Fill × Kept Code × Kept Range
+  Meaning (refuses number cell) =
+      ((number ≡ 2) × Named Fill cell) ⊎ (((number ≡ 3) × Kept Fill × Named Code cell) ⊎ ((number ≡ 4) × Kept Fill × Kept Code × Named Range cell))
+
+  -- what a search for a rule finds
+  abbrev Found : Rule → Type 0
+  Found rule =
+      ((lowestThat rule kind (isBegun kind cells) cells ≡ 0) × Kept rule)
+      ⊎ ((cell : ℕ) × (cell ≡ lowestThat rule kind (isBegun kind cells) cells) × (cell ≡ 0 → ⊥) × Named rule cell)
+
+  found : (rule : Rule) → Found rule
+  unfolding lowestThat
+  found rule = by (lowest-meaning (breaks rule kind (isBegun kind cells)) 1 cells)
+    where
+      by : Passes (breaks rule kind (isBegun kind cells)) 1 cells ⊎ ((k : ℕ) × FailsAt (breaks rule kind (isBegun kind cells)) 1 cells k) → Found rule
+      by (inl r) = inl (r .none, λ k h. r .all k Blank h)
+      by (inr (k, r)) =
+          inr (
+            1 + k,
+            sym (r .found),
+            λ e. absurd (omega arith),
+            record { place = k; is = refl; inside = r .inside; broken = r .failing Blank; lower = λ j h. r .below j Blank h },
+          )
+
+  -- a row of a known kind
+  pub kind-meaning : Meaning (acceptKind kind cells)
+  kind-meaning = by-fill (found Fill)
+    where
+      by-range : (lowestThat Fill kind (isBegun kind cells) cells ≡ 0) × Kept Fill → (lowestThat Code kind (isBegun kind cells) cells ≡ 0) × Kept Code → Found Range → Meaning (acceptKind kind cells)
+      by-range f c (inl r) =
+          subst Meaning (sym (none-refused kind cells refl (record { fill = f .0; code = c .0; range = r .0 }))) (f .1, c .1, r .1)
+      by-range f c (inr (cell, e, some, named)) = subst Meaning (sym (range-refused kind cells refl (f .0) (c .0) e some)) (inr (inr (refl, f .1, c .1, named)))
+
+      by-code : (lowestThat Fill kind (isBegun kind cells) cells ≡ 0) × Kept Fill → Found Code → Meaning (acceptKind kind cells)
+      by-code f (inl c) = by-range f c (found Range)
+      by-code f (inr (cell, e, some, named)) = subst Meaning (sym (code-refused kind cells refl (f .0) e some)) (inr (inl (refl, f .1, named)))
+
+      by-fill : Found Fill → Meaning (acceptKind kind cells)
+      by-fill (inl f) = by-code f (found Code)
+      by-fill (inr (cell, e, some, named)) = subst Meaning (sym (fill-refused kind cells refl e some)) (inl (refl, named))
+
+-- what acceptance says of a row, by its cell 1: blank, an unknown code, or a kind
+abbrev pub OfCode : KindCode → List Cell → Result Member → Type 0
+OfCode Unknown cells result = result ≡ refuses 3 1
+OfCode (Known kind) cells result = Meaning kind cells result
+
+abbrev pub OfFirst : Cell → List Cell → Result Member → Type 0
+OfFirst Blank cells result = result ≡ refuses 2 1
+OfFirst (Whole code) cells result = OfCode (kindOf code) cells result
+
+-- a row is refused for cell 1 where that is blank or unknown; otherwise by the first rule that a cell breaks, and accepted where none does
+pub accept-meaning : (cells : List Cell) → OfFirst (getD cells 0 Blank) cells (accept cells)
+accept-meaning cells = by (getD cells 0 Blank)
+  where
+    known : (code : KindCode) → OfCode code cells (acceptCode code cells)
+    known Unknown = refl
+    known (Known kind) = kind-meaning kind cells
+
+    by : (first : Cell) → OfFirst first cells (acceptFirst first cells)
+    by Blank = refl
+    by (Whole code) = known (kindOf code)
