@@ -64,7 +64,7 @@ strengthOf Compression = bucklingH ∷ bucklingB ∷ []
 strengthOf CompressionBending = shear ∷ bucklingH ∷ bucklingB ∷ compressionBending ∷ []
 strengthOf TensionBending = shear ∷ tensionBending ∷ []
 
--- what a row does without: checks 1, 4 and 6 where there is no joint, check 3 where cell 13 is 4
+-- the checks of a kind that a row does without: 1, 4 and 6 if it has no joint, 3 in row 4 of Table 16
 abbrev pub omitted : Member → Check → Bool
 omitted m (yesNo layout) = not (m .jointed)
 omitted m (yesNo slendernessH) = false
@@ -89,7 +89,7 @@ abbrev pub OfKind : Kind → Check → Type 0
 OfKind kind (yesNo c) = Among c (yesNoOf kind)
 OfKind kind (strength c) = Among c (strengthOf kind)
 
--- a row has the checks of its kind, save those that it does without
+-- check c is one of the row's: of its kind, and not omitted
 pub record Has (m : Member) (c : Check) : Type 0 where
   pub of-kind : OfKind (m .kind) c
   pub kept : omitted m c ≡ false

@@ -17,12 +17,12 @@ use Rattle.member.specs.declared.verdict.Answer.{Answer}
 use Rattle.member.specs.declared.verdict.Answer.the-variants.{Judged}
 use Rattle.member.specs.declared.verdict.Verdict.{Verdict}
 
--- a row fails on the check that its verdict names
+-- the verdict is a fail and names check c
 pub record FailsOn (v : Verdict) (c : Check) : Type 0 where
   pub fails : v .passes ≡ false
   pub names : v .check ≡ number c
 
--- layout is check 1, slenderness checks 2 and 3; the others are joint length, check 4, and strength, checks 5 to 11
+-- checks 1 to 3 are layout and slenderness; joint length is check 4, and strength the rest
 abbrev pub LayoutOrSlenderness : Check → Type 0
 LayoutOrSlenderness c = number c ≤ 3
 

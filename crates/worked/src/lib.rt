@@ -1,1 +1,1 @@
-// The worked rows A to H of document 01 as one table of cases, proved by one theorem. There is no code here.
+// The worked rows A to H of document 01: a table of cases, and a theorem about it. There is no code here.
