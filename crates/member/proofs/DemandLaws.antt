@@ -4,7 +4,7 @@ use Prim.Native.Nat.{ℕ, _≤_, _<_}
 use native.Mathlib.Nat.{le-antisymm}
 use native.Mathlib.Omega.{arith}
 use mathlib.Core.Path.{_≡_, refl, sym, ap, _∙_}
-use mathlib.Core.Logic.{_⊎_, inl, inr, _↔_}
+use mathlib.Core.Logic.{inl, inr, _↔_}
 use mathlib.Core.Bool.{Bool, true, false, cond, true≢false}
 use borrow.Author.Tests.{leb-true, leb-false, not-false}
 use lib.Dec.{leb, eqb, lit≤}
@@ -15,10 +15,10 @@ use Rattle.member.specs.Checks.{Check, YesNo, Strength, yesNo, strength,
 use Rattle.member.specs.Demand3.{FailsOn, LayoutOrSlenderness, FirstToFail, CountFor, Demand3At}
 use Rattle.member.specs.Member.{limitOf, countOf}
 use Rattle.member.specs.Unrounded.{Forces, times, Holds}
-use Rattle.member.specs.Verdict.{holds, utilisationOf, used, governing, byStrength, countOnFail, failedOn, verdict}
+use Rattle.member.specs.Verdict.{holds, utilisationOf, used, byStrength, countOnFail, failedOn, verdict}
 use Rattle.member.specs.declared.member.Member.{Member}
 use Rattle.member.specs.declared.verdict.Verdict.{Verdict}
-use Rattle.member.proofs.VerdictLaws.{yesNoNumber, strengthNumber, yes-no-rising, strength-rising, rising-same, AllHold, FirstFailing, judge-meaning, Governs, governs}
+use Rattle.member.proofs.VerdictLaws.{yesNoNumber, strengthNumber, strength-rising, rising-same, clash, AllHold, FirstFailing, Governs, governs, VerdictOutcome, verdict-outcome}
 
 -- The numbers of the checks: yes-or-no checks have 1 to 4, each its own, and strength checks 5 and more.
 yes-no-low : (c : YesNo) → yesNoNumber c ≤ 4
@@ -48,9 +48,6 @@ yes-no-at jointLength = refl
 
 same-yes-no : (c d : YesNo) → yesNoNumber c ≡ yesNoNumber d → c ≡ d
 same-yes-no c d e = sym (yes-no-at c) ∙ ap yesNoAt e ∙ yes-no-at d
-
-pub clash : {t : Bool} → t ≡ true → t ≡ false → ⊥
-clash e f = true≢false (sym e ∙ f)
 
 module _ (m : Member) (f : Forces) where
   -- a strength check with its unrounded form
@@ -192,10 +189,8 @@ module _ (m : Member) (f : Forces) where
 
     -- demand 3 of the verdict
     pub demand-from : Demand3At m f (verdict m) k
-    demand-from = by (judge-meaning m (yesNoOf (m .kind)) (yes-no-rising (m .kind)) (byStrength (governing m (strengthOf (m .kind))) (countOf m)))
+    demand-from = by (verdict-outcome m)
       where
-        by : (AllHold m (yesNoOf (m .kind)) × (verdict m ≡ byStrength (governing m (strengthOf (m .kind))) (countOf m)))
-            ⊎ ((c : YesNo) × FirstFailing m (yesNoOf (m .kind)) c × (verdict m ≡ failedOn (number (yesNo c)) (countOnFail m c)))
-            → Demand3At m f (verdict m) k
+        by : VerdictOutcome m → Demand3At m f (verdict m) k
         by (inl (all, e)) = let g = governs m (m .kind) in rw (e, g .2) (demand-strength all (g .0) (g .1))
         by (inr (c, fails, e)) = rw e (demand-yes-no c fails)

@@ -17,8 +17,8 @@ use Rattle.member.specs.Unrounded.{Forces, times, Holds}
 use Rattle.member.specs.Verdict.{failedOn}
 use Rattle.member.specs.declared.member.Member.{Member}
 use Rattle.member.specs.declared.verdict.Verdict.{Verdict}
-use Rattle.member.proofs.VerdictLaws.{yesNoNumber, yes-no-rising, FirstFailing, judge-meaning}
-use Rattle.member.proofs.DemandLaws.{strength-high, clash, exact}
+use Rattle.member.proofs.VerdictLaws.{clash, yesNoNumber, yes-no-rising, FirstFailing, judge-meaning}
+use Rattle.member.proofs.DemandLaws.{strength-high, exact}
 use Rattle.member.proofs.RowChecks.{joint-row}
 
 -- the forces at which a failed check must fail: those of the row for layout and slenderness, k thousandths of them for the others

@@ -3,7 +3,7 @@
 use Prim.Native.Nat.{ℕ, _≤_}
 use native.Mathlib.Nat.{le-trans}
 use mathlib.Core.Path.{_≡_, refl, sym, ap, _∙_}
-use mathlib.Core.Logic.{_⊎_, inl, inr, _↔_}
+use mathlib.Core.Logic.{inl, inr, _↔_}
 use mathlib.Core.Bool.{Bool, true, false}
 use mathlib.Core.List.{List}
 use borrow.Author.Tests.{leb-true, le-leb}
@@ -12,38 +12,28 @@ use Rattle.cells.specs.declared.row.Cell.{Cell}
 use Rattle.rounding.proofs.Soundness.{utilisation-more}
 use Rattle.sp64.proofs.ForceLaws.{tension-bending-more, compression-bending-more, length-kept}
 use Rattle.member.specs.Acceptance.{accept}
-use Rattle.member.specs.Checks.{YesNo, Strength, yesNo, strength, number, yesNoOf, strengthOf, omitted, Among, layout, slendernessH, slendernessB, jointLength, netTension, sidePieces, bending, shear, bucklingH, bucklingB, compressionBending, tensionBending}
-use Rattle.member.specs.Member.{countOf}
-use Rattle.member.specs.Verdict.{holds, utilisationOf, governing, byStrength, countOnFail, failedOn, verdict, judged, checkRow}
+use Rattle.member.specs.Checks.{YesNo, Strength, yesNo, strength, yesNoOf, strengthOf, omitted, Among, layout, slendernessH, slendernessB, jointLength, netTension, sidePieces, bending, shear, bucklingH, bucklingB, compressionBending, tensionBending}
+use Rattle.member.specs.Verdict.{holds, utilisationOf, verdict, judged, checkRow}
 use Rattle.member.specs.declared.member.Member.{Member}
 use Rattle.member.specs.declared.verdict.Verdict.{Verdict}
-use Rattle.member.proofs.DemandLaws.{clash}
-use Rattle.member.proofs.VerdictLaws.{AllHold, FirstFailing, judge-meaning, governs, yes-no-rising}
+use Rattle.member.proofs.VerdictLaws.{clash, AllHold, governs, VerdictOutcome, verdict-outcome}
 
 -- every strength check that the row has is within its utilisation
 abbrev AllWithin : Member → Type 0
 AllWithin m = (c : Strength) → Among c (strengthOf (m .kind)) → omitted m (strength c) ≡ false → utilisationOf m c ≤ 1000000
 
 module _ (m : Member) where
-  abbrev Outcome : Type 0
-  Outcome =
-      (AllHold m (yesNoOf (m .kind)) × (verdict m ≡ byStrength (governing m (strengthOf (m .kind))) (countOf m)))
-      ⊎ ((c : YesNo) × FirstFailing m (yesNoOf (m .kind)) c × (verdict m ≡ failedOn (number (yesNo c)) (countOnFail m c)))
-
-  outcome : Outcome
-  outcome = judge-meaning m (yesNoOf (m .kind)) (yes-no-rising (m .kind)) (byStrength (governing m (strengthOf (m .kind))) (countOf m))
-
   passes-when : AllHold m (yesNoOf (m .kind)) × AllWithin m → verdict m .passes ≡ true
-  passes-when (all, within) = by outcome
+  passes-when (all, within) = by (verdict-outcome m)
     where
-      by : Outcome → verdict m .passes ≡ true
+      by : VerdictOutcome m → verdict m .passes ≡ true
       by (inl (h, e)) = let g = governs m (m .kind) in rw (e, g .2) (le-leb _ _ (within (g .0) (g .1 .among) (g .1 .kept)))
       by (inr (c, f, e)) = absurd (clash (all c (f .among) (f .kept)) (f .fails))
 
   passes-means : verdict m .passes ≡ true → AllHold m (yesNoOf (m .kind)) × AllWithin m
-  passes-means p = by outcome
+  passes-means p = by (verdict-outcome m)
     where
-      by : Outcome → AllHold m (yesNoOf (m .kind)) × AllWithin m
+      by : VerdictOutcome m → AllHold m (yesNoOf (m .kind)) × AllWithin m
       by (inl (h, e)) =
           let g = governs m (m .kind) in
           let below : utilisationOf m (g .0) ≤ 1000000 = leb-true _ _ (rw (e, g .2) at p) in

@@ -22,8 +22,8 @@ use Rattle.member.specs.Verdict.{holds}
 use Rattle.member.specs.declared.kind.Kind.{Kind}
 use Rattle.member.specs.declared.kind.Kind.the-variants.{Tension, Bending, Compression, CompressionBending, TensionBending}
 use Rattle.member.specs.declared.member.Member.{Member}
-use Rattle.member.proofs.VerdictLaws.{AllHold}
-use Rattle.member.proofs.DemandLaws.{clash, StrengthSound, ChecksSound}
+use Rattle.member.proofs.VerdictLaws.{clash, AllHold}
+use Rattle.member.proofs.DemandLaws.{StrengthSound, ChecksSound}
 
 module _ (m : Member) (f : Forces) where
   -- check 5, where a joint keeps its layout

@@ -9,7 +9,8 @@ use mathlib.Core.List.{List, [], _∷_}
 use borrow.Author.Tests.{leb-true, leb-false}
 use lib.Dec.{leb, leb·zero}
 use Rattle.member.specs.Checks.{YesNo, Strength, yesNo, strength, number, yesNoOf, strengthOf, omitted, Among, netTension, bending, shear, bucklingH}
-use Rattle.member.specs.Verdict.{holds, utilisationOf, used, governing, countOnFail, failedOn, judgeBy}
+use Rattle.member.specs.Member.{countOf}
+use Rattle.member.specs.Verdict.{holds, utilisationOf, used, governing, byStrength, countOnFail, failedOn, judgeBy}
 use Rattle.member.specs.declared.kind.Kind.{Kind}
 use Rattle.member.specs.declared.kind.Kind.the-variants.{Tension, Bending, Compression, CompressionBending, TensionBending}
 use Rattle.member.specs.declared.member.Member.{Member}
@@ -65,6 +66,10 @@ other-true : (x y : Bool) → x || y ≡ true → x ≡ false → y ≡ true
 other-true true y e f = absurd (true≢false f)
 other-true false y e f = e
 
+-- no truth value is both
+pub clash : {t : Bool} → t ≡ true → t ≡ false → ⊥
+clash e f = true≢false (sym e ∙ f)
+
 both-false : (x y : Bool) → x || y ≡ false → (x ≡ false) × (y ≡ false)
 both-false true y e = absurd (true≢false e)
 both-false false y e = (refl, e)
@@ -82,12 +87,12 @@ module _ (m : Member) where
     pub before : (d : YesNo) → Among d checks → yesNoNumber d < yesNoNumber c → omitted m (yesNo d) ≡ false → holds m d ≡ true
 
   -- either all hold, and the verdict is the one by strength, or the first to fail gives it
-  abbrev Judged : List YesNo → Verdict → Type 0
-  Judged checks v =
+  abbrev pub Outcome : List YesNo → Verdict → Type 0
+  Outcome checks v =
       (AllHold checks × (judgeBy m checks v ≡ v))
       ⊎ ((c : YesNo) × FirstFailing checks c × (judgeBy m checks v ≡ failedOn (number (yesNo c)) (countOnFail m c)))
 
-  pub judge-meaning : (checks : List YesNo) → Rising yesNoNumber checks → (v : Verdict) → Judged checks v
+  pub judge-meaning : (checks : List YesNo) → Rising yesNoNumber checks → (v : Verdict) → Outcome checks v
   unfolding judgeBy
   judge-meaning [] rising v = inl (λ c a. absurd a, refl)
   judge-meaning (x ∷ checks) rising v = by (omitted m (yesNo x) || holds m x) refl (judge-meaning checks (rising .1) v)
@@ -105,7 +110,7 @@ module _ (m : Member) where
       none d (inl e) lt = let same : yesNoNumber d ≡ yesNoNumber x = ap yesNoNumber e in absurd (omega arith)
       none d (inr a) lt = absurd (omega (arith, below-among yesNoNumber x checks (rising .0) d a))
 
-      by : (t : Bool) → omitted m (yesNo x) || holds m x ≡ t → Judged checks v → Judged (x ∷ checks) v
+      by : (t : Bool) → omitted m (yesNo x) || holds m x ≡ t → Outcome checks v → Outcome (x ∷ checks) v
       by true t (inl (h, e)) = inl (all t h, rw t e)
       by true t (inr (c, f, e)) =
           inr (c, record { among = inr (f .among); kept = f .kept; fails = f .fails; before = before t c f }, rw t e)
@@ -128,9 +133,6 @@ module _ (m : Member) where
       (AllOmitted checks × (governing m checks ≡ record { check = 0; utilisation = 0 }))
       ⊎ ((c : Strength) × Governs checks c × (governing m checks ≡ used m c))
 
-  clash : (t : Bool) → t ≡ true → t ≡ false → ⊥
-  clash t e f = true≢false (sym e ∙ f)
-
   governing-meaning : (checks : List Strength) → Rising strengthNumber checks → Governed checks
   unfolding governing
   governing-meaning [] rising = inl (λ d a. absurd a, refl)
@@ -143,12 +145,12 @@ module _ (m : Member) where
       -- without x the governing check stays
       greatest-without : omitted m (strength x) ≡ true → (c : Strength) → Governs checks c
           → (d : Strength) → Among d (x ∷ checks) → omitted m (strength d) ≡ false → utilisationOf m d ≤ utilisationOf m c
-      greatest-without o c g d (inl e) kept = absurd (clash _ o (rw e at kept))
+      greatest-without o c g d (inl e) kept = absurd (clash o (rw e at kept))
       greatest-without o c g d (inr a) kept = g .greatest d a kept
 
       lowest-without : omitted m (strength x) ≡ true → (c : Strength) → Governs checks c
           → (d : Strength) → Among d (x ∷ checks) → omitted m (strength d) ≡ false → utilisationOf m d ≡ utilisationOf m c → strengthNumber c ≤ strengthNumber d
-      lowest-without o c g d (inl e) kept same = absurd (clash _ o (rw e at kept))
+      lowest-without o c g d (inl e) kept same = absurd (clash o (rw e at kept))
       lowest-without o c g d (inr a) kept same = g .lowest d a kept same
 
       -- x governs where no later check is above it
@@ -185,14 +187,14 @@ module _ (m : Member) where
       by true o (inl (h, e)) = inl (omit o h, rw o e)
       by true o (inr (c, g, e)) =
           inr (c, record { among = inr (g .among); kept = g .kept; greatest = greatest-without o c g; lowest = lowest-without o c g }, rw o e)
-      by false o (inl (h, e)) = inr (x, takes o (λ d a kept. absurd (clash _ (h d a) kept)), rw (o, e, leb·zero) refl)
+      by false o (inl (h, e)) = inr (x, takes o (λ d a kept. absurd (clash (h d a) kept)), rw (o, e, leb·zero) refl)
       by false o (inr (c, g, e)) = pick o c g e _ refl
 
   first-kept : (checks : List Strength) → Rising strengthNumber checks → (d : Strength) → Among d checks → omitted m (strength d) ≡ false → (c : Strength) × Governs checks c × (governing m checks ≡ used m c)
   first-kept checks rising d a kept = by (governing-meaning checks rising)
     where
       by : Governed checks → (c : Strength) × Governs checks c × (governing m checks ≡ used m c)
-      by (inl (h, e)) = absurd (clash _ (h d a) kept)
+      by (inl (h, e)) = absurd (clash (h d a) kept)
       by (inr r) = r
 
   -- every kind has a check that governs
@@ -202,3 +204,10 @@ module _ (m : Member) where
   governs Compression = first-kept (strengthOf Compression) (strength-rising Compression) bucklingH (inl refl) refl
   governs CompressionBending = first-kept (strengthOf CompressionBending) (strength-rising CompressionBending) shear (inl refl) refl
   governs TensionBending = first-kept (strengthOf TensionBending) (strength-rising TensionBending) shear (inl refl) refl
+
+  -- how the verdict comes about
+  abbrev pub VerdictOutcome : Type 0
+  VerdictOutcome = Outcome (yesNoOf (m .kind)) (byStrength (governing m (strengthOf (m .kind))) (countOf m))
+
+  pub verdict-outcome : VerdictOutcome
+  verdict-outcome = judge-meaning (yesNoOf (m .kind)) (yes-no-rising (m .kind)) (byStrength (governing m (strengthOf (m .kind))) (countOf m))

@@ -65,6 +65,7 @@ const GREATEST: [u64; CELLS] = [
     5000,
 ];
 
+// Whether a cell is filled.
 fn is_filled(cell: Cell) -> bool
     ensures { λ r. ⌜ r ≡ filled cell ⌝ }
 {
@@ -74,6 +75,7 @@ fn is_filled(cell: Cell) -> bool
     }
 }
 
+// The value of a cell, 0 for a blank.
 pub fn value_of(cell: Cell) -> u64
     ensures { λ r. ⌜ r ≡ valueOf cell ⌝ }
 {
@@ -83,12 +85,14 @@ pub fn value_of(cell: Cell) -> u64
     }
 }
 
+// Whether n is from lo to hi.
 fn is_within(lo: u32, hi: u32, n: u32) -> bool
     ensures { λ r. ⌜ r ≡ within lo hi n ⌝ }
 {
     (lo <= n) & (n <= hi)
 }
 
+// Whether a kind always fills cell n.
 fn is_required(kind: Kind, n: u32) -> bool
     ensures { λ r. ⌜ r ≡ required kind n ⌝ }
 {
@@ -101,6 +105,7 @@ fn is_required(kind: Kind, n: u32) -> bool
     }
 }
 
+// Whether cell n is one of which a kind fills all or none.
 fn is_optional(kind: Kind, n: u32) -> bool
     ensures { λ r. ⌜ r ≡ optional kind n ⌝ }
 {
@@ -113,12 +118,14 @@ fn is_optional(kind: Kind, n: u32) -> bool
     }
 }
 
+// Whether a row of a kind fills cell n.
 fn is_wanted(kind: Kind, begun: bool, n: u32) -> bool
     ensures { λ r. ⌜ r ≡ wanted kind begun n ⌝ }
 {
     is_required(kind, n) | (is_optional(kind, n) & begun)
 }
 
+// Kinds 3 and 4, whose rows of Table 16 are 1 to 3.
 fn is_compressed(kind: Kind) -> bool
     ensures { λ r. ⌜ r ≡ compressed kind ⌝ }
 {
@@ -131,12 +138,14 @@ fn is_compressed(kind: Kind) -> bool
     }
 }
 
+// Whether a row of Table 16 is known and for the kind.
 fn is_known_row(kind: Kind, row: u64) -> bool
     ensures { λ r. ⌜ r ≡ knownRow kind row ⌝ }
 {
     (1 <= slenderness_limit(row)) & ((row <= 3) == is_compressed(kind))
 }
 
+// Whether the code in cell n is known, where that cell has one.
 fn is_known_code(kind: Kind, n: u32, code: u64) -> bool
     ensures { λ r. ⌜ r ≡ knownCode kind n code ⌝ }
 {
@@ -148,6 +157,7 @@ fn is_known_code(kind: Kind, n: u32, code: u64) -> bool
     }
 }
 
+// Whether the value in cell n is in its range.
 fn is_in_range(n: u32, value: u64) -> bool
     requires { ⌜ In 1 22 n ⌝ }
     ensures { λ r. ⌜ r ≡ inRange n value ⌝ }

@@ -1,6 +1,7 @@
 // The row check.
 mod acceptance;
 pub mod check;
+mod checks;
 mod governing;
 mod kind;
 mod kinds;

@@ -1,8 +1,8 @@
 -- `slender_across_height` meets its contract: check 2, by the callees' equations.
 -- Assumes nothing.
 use borrow.Author.Needs.{needs}
-use Rattle.rowcheck.proofs.kinds.slender_across_height.Statement.{statement}
-use Rattle.rowcheck.proofs.kinds.slender_across_height.Tie as tie
+use Rattle.rowcheck.proofs.checks.slender_across_height.Statement.{statement}
+use Rattle.rowcheck.proofs.checks.slender_across_height.Tie as tie
 
 slenderness-limit-requires : tie.Need-slenderness-limit-requires
 slenderness-limit-requires c κs = search needs

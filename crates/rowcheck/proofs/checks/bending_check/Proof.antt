@@ -1,8 +1,8 @@
 -- `bending_check` meets its contract: the utilisation by the callees' equations.
 -- Assumes nothing.
 use borrow.Author.Needs.{needs}
-use Rattle.rowcheck.proofs.kinds.bending_check.Statement.{statement}
-use Rattle.rowcheck.proofs.kinds.bending_check.Tie as tie
+use Rattle.rowcheck.proofs.checks.bending_check.Statement.{statement}
+use Rattle.rowcheck.proofs.checks.bending_check.Tie as tie
 
 moment-resistance-requires : tie.Need-moment-resistance-requires
 moment-resistance-requires c κs = search needs

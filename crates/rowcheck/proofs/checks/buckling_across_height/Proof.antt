@@ -3,8 +3,8 @@
 use native.Mathlib.Omega.{arith}
 use Rattle.rounding.proofs.Ranges.{in-mul}
 use borrow.Author.Needs.{needs}
-use Rattle.rowcheck.proofs.kinds.buckling_across_height.Statement.{statement}
-use Rattle.rowcheck.proofs.kinds.buckling_across_height.Tie as tie
+use Rattle.rowcheck.proofs.checks.buckling_across_height.Statement.{statement}
+use Rattle.rowcheck.proofs.checks.buckling_across_height.Tie as tie
 
 buckling-phi-requires : tie.Need-buckling-phi-requires
 buckling-phi-requires c κs = search needs

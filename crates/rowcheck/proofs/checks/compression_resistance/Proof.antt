@@ -1,8 +1,8 @@
--- `tension_resistance` meets its contract: the value by the callees' equations, the range as the last callee gives it.
+-- `compression_resistance` meets its contract: the value by the callees' equations, the range as the last callee gives it.
 -- Assumes nothing.
 use borrow.Author.Needs.{needs}
-use Rattle.rowcheck.proofs.kinds.tension_resistance.Statement.{statement}
-use Rattle.rowcheck.proofs.kinds.tension_resistance.Tie as tie
+use Rattle.rowcheck.proofs.checks.compression_resistance.Statement.{statement}
+use Rattle.rowcheck.proofs.checks.compression_resistance.Tie as tie
 
 design-strength-requires : tie.Need-design-strength-requires
 design-strength-requires c κs = search needs
@@ -13,6 +13,6 @@ axial-capacity-requires c κs = search needs
 returns : tie.Need-returns
 returns c = record { exact = cc; range = c .axial-capacity .ensures .range }
 
-pub tension-resistance-spec : {M : Type 1} → statement M
-tension-resistance-spec =
+pub compression-resistance-spec : {M : Type 1} → statement M
+compression-resistance-spec =
     tie.close (tie.spec design-strength-requires axial-capacity-requires returns)

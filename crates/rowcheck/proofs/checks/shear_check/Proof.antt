@@ -1,8 +1,8 @@
 -- `shear_check` meets its contract: the utilisation by the callees' equations.
 -- Assumes nothing.
 use borrow.Author.Needs.{needs}
-use Rattle.rowcheck.proofs.kinds.shear_check.Statement.{statement}
-use Rattle.rowcheck.proofs.kinds.shear_check.Tie as tie
+use Rattle.rowcheck.proofs.checks.shear_check.Statement.{statement}
+use Rattle.rowcheck.proofs.checks.shear_check.Tie as tie
 
 design-strength-requires : tie.Need-design-strength-requires
 design-strength-requires c κs = search needs

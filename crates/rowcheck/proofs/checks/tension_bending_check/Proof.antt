@@ -1,8 +1,8 @@
 -- `tension_bending_check` meets its contract: the utilisation by the callees' equations.
 -- Assumes nothing.
 use borrow.Author.Needs.{needs}
-use Rattle.rowcheck.proofs.kinds.tension_bending_check.Statement.{statement}
-use Rattle.rowcheck.proofs.kinds.tension_bending_check.Tie as tie
+use Rattle.rowcheck.proofs.checks.tension_bending_check.Statement.{statement}
+use Rattle.rowcheck.proofs.checks.tension_bending_check.Tie as tie
 
 tension-resistance-requires : tie.Need-tension-resistance-requires
 tension-resistance-requires c κs = search needs

@@ -1,8 +1,8 @@
 -- `compression_bending_check` meets its contract: the utilisation by the callees' equations.
 -- Assumes nothing.
 use borrow.Author.Needs.{needs}
-use Rattle.rowcheck.proofs.kinds.compression_bending_check.Statement.{statement}
-use Rattle.rowcheck.proofs.kinds.compression_bending_check.Tie as tie
+use Rattle.rowcheck.proofs.checks.compression_bending_check.Statement.{statement}
+use Rattle.rowcheck.proofs.checks.compression_bending_check.Tie as tie
 
 euler-capacity-requires : tie.Need-euler-capacity-requires
 euler-capacity-requires c κs = search needs

@@ -1,8 +1,8 @@
 -- `moment_resistance` meets its contract: the value by the callees' equations, the range as the last callee gives it.
 -- Assumes nothing.
 use borrow.Author.Needs.{needs}
-use Rattle.rowcheck.proofs.kinds.moment_resistance.Statement.{statement}
-use Rattle.rowcheck.proofs.kinds.moment_resistance.Tie as tie
+use Rattle.rowcheck.proofs.checks.moment_resistance.Statement.{statement}
+use Rattle.rowcheck.proofs.checks.moment_resistance.Tie as tie
 
 design-strength-requires : tie.Need-design-strength-requires
 design-strength-requires c κs = search needs
