@@ -82,6 +82,12 @@ module _ (m : Member) (f : Forces) where
       abbrev byUse : Verdict
       byUse = byStrength (used m c) (countOf m)
 
+      within : byUse .passes ≡ true → utilisationOf m c ≤ 1000000
+      within e = let le = leb-true (utilisationOf m c) _ e in omega (arith, le)
+
+      above : byUse .passes ≡ false → 1000000 < utilisationOf m c
+      above e = let lt = leb-false (utilisationOf m c) _ e in omega (arith, lt)
+
       pass-strength : utilisationOf m c ≤ 1000000 → (d : Check) → Has m d → Holds m f d
       pass-strength le (yesNo d) has = yes-no-holds d (has .kept) (all d (has .of-kind) (has .kept))
       pass-strength le (strength d) has =
@@ -100,13 +106,13 @@ module _ (m : Member) (f : Forces) where
       fail-strength (strength d) has on h =
           let e : d ≡ c =
           rising-same strengthNumber (strengthOf (m .kind)) (strength-rising (m .kind)) d c (has .of-kind) (governed .among) (sym (on .names)) in
-          s .strength-sound all d (has .of-kind) (has .kept) .fail k big (rw e (leb-false _ _ (on .fails))) h
+          s .strength-sound all d (has .of-kind) (has .kept) .fail k big (rw e (above (on .fails))) h
 
       demand-strength : Demand3At m f byUse k
       demand-strength =
           record {
             named = (strength c, record { of-kind = governed .among; kept = governed .kept }, refl);
-            pass = λ e. pass-strength (leb-true _ _ e);
+            pass = λ e. pass-strength (within e);
             first = λ d low. (none-named d low, none-first d low);
             fail = λ d has high on. fail-strength d has on;
             count-above = λ j hold. s .count-above j;
