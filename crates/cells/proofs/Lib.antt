@@ -7,3 +7,4 @@ pub mod HostRowLaws
 pub mod AnswerLaws
 pub mod ReadingMeaning
 pub mod AnswerMeaning
+pub mod ReadRows

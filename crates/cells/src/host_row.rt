@@ -1,17 +1,21 @@
 // The host's row of bytes.
+use crate::number::Reading;
 use crate::reading::ReadRow;
-use crate::reading::read_cells;
+use crate::reading::read_cell;
 use crate::reading::refused;
+use crate::refusal::Outcome;
 use crate::refusal::Refusal;
 use crate::row::CELLS;
 use crate::row::HostCell;
+use crate::row::Slot;
+use crate::row::blank_row;
 ghost use mathlib.Core.Path.{_≡_};
-ghost use Prim.Native.Nat.{_+_, _*_, _^_, _≤_, _<_};
+ghost use Prim.Native.Nat.{_+_, _^_, _≤_, _<_};
 ghost use lib.ListN.{length};
 ghost use lib.Ieee.{binary64, ofBits};
 ghost use Rattle.cells.specs.Refusal.{resultOf, valueOr};
 ghost use Rattle.cells.specs.Row.{cellCount, cellsOf, blanks};
-ghost use Rattle.cells.specs.HostRow.{halfWordAt, wordAt, hostCellBytes, hostCellAt, hostCellsAt, readHostRow};
+ghost use Rattle.cells.specs.HostRow.{halfWordAt, wordAt, hostCellBytes, hostCellAt, readHostRow};
 
 // The bytes of a host's cell: one that says whether it is filled, and eight of the float.
 const CELL_BYTES: usize = 9;
@@ -64,21 +68,7 @@ fn host_cell_at(bytes: &[u8], at: usize) -> HostCell
     HostCell::Number(0.0 / 0.0)
 }
 
-// The cells of the host's row.
-fn host_cells(bytes: &[u8]) -> [HostCell; CELLS]
-    requires { ⌜ length (now bytes) ≡ hostCellBytes * cellCount ⌝ }
-    ensures { λ r. ⌜ r ≡ hostCellsAt cellCount (now (bytes .entry)) 0 ⌝ }
-{
-    let mut cells = [HostCell::Blank; CELLS];
-    let mut i: usize = 0;
-    while i < CELLS {
-        cells[i] = host_cell_at(bytes, CELL_BYTES * i);
-        i = i + 1;
-    }
-    cells
-}
-
-// The host's row, read to whole numbers.
+// The host's row, read to whole numbers: each cell where it stands, with no copy of the cells in between.
 pub fn read_host_row(bytes: &[u8]) -> ReadRow
     ensures result { λ r. ⌜ resultOf (r .outcome) (cellsOf (r .row)) ≡ readHostRow (now (bytes .entry)) ⌝ }
     ensures whole { λ r. ⌜ cellsOf (r .row) ≡ valueOr (blanks cellCount) (readHostRow (now (bytes .entry))) ⌝ }
@@ -86,5 +76,22 @@ pub fn read_host_row(bytes: &[u8]) -> ReadRow
     if bytes.len() != CELL_BYTES * CELLS {
         return refused(Refusal::RowLength);
     }
-    read_cells(host_cells(bytes))
+    let mut row = blank_row();
+    let mut i: usize = 0;
+    while i < CELLS {
+        let reading = read_cell(host_cell_at(bytes, CELL_BYTES * i));
+        match reading {
+            Reading::Unreadable => {
+                return refused(Refusal::Unreadable((i + 1) as u32));
+            }
+            Reading::Read(cell) => {
+                row.cells[i] = Slot { cell };
+            }
+        }
+        i = i + 1;
+    }
+    ReadRow {
+        outcome: Outcome::Done,
+        row,
+    }
 }

@@ -31,7 +31,7 @@ pub(crate) fn refused(refusal: Refusal) -> ReadRow
 }
 
 // The reading of one cell.
-fn read_cell(cell: HostCell) -> Reading
+pub(crate) fn read_cell(cell: HostCell) -> Reading
     ensures { λ r. ⌜ r ≡ readCell cell ⌝ }
 {
     match cell {
@@ -45,8 +45,7 @@ pub fn read_cells(cells: [HostCell; CELLS]) -> ReadRow
     ensures result { λ r. ⌜ resultOf (r .outcome) (cellsOf (r .row)) ≡ readCells cells ⌝ }
     ensures whole { λ r. ⌜ cellsOf (r .row) ≡ valueOr (blanks cellCount) (readCells cells) ⌝ }
 {
-    let blank = Slot { cell: Cell::Blank };
-    let mut slots = [blank; CELLS];
+    let mut row = blank_row();
     let mut i: usize = 0;
     while i < CELLS {
         let reading = read_cell(cells[i]);
@@ -55,12 +54,11 @@ pub fn read_cells(cells: [HostCell; CELLS]) -> ReadRow
                 return refused(Refusal::Unreadable((i + 1) as u32));
             }
             Reading::Read(cell) => {
-                slots[i] = Slot { cell };
+                row.cells[i] = Slot { cell };
             }
         }
         i = i + 1;
     }
-    let row = Row { cells: slots };
     ReadRow {
         outcome: Outcome::Done,
         row,

@@ -2,58 +2,35 @@
 -- Assumes nothing.
 use borrow.Author.Needs.{needs}
 use mathlib.Core.Path.{_≡_, refl, sym, ap, _∙_}
-use mathlib.Core.Bool.{Bool, cond}
-use mathlib.Core.List.{List}
-use Prim.Native.Nat.{ℕ, _+_, _-_, _≤_, _<_}
+use Prim.Native.Nat.{_+_, _-_, _≤_, _<_}
 use native.Mathlib.Omega.{arith}
-use lib.ListN.{length, getD, take, drop, length-set, length-map, List·getD-map}
+use lib.ListN.{length, take, drop, length-set}
 use Rattle.cells.specs.Lowest.{lowest}
-use Rattle.cells.specs.Reading.{readCell, isUnreadable, cellRead, lowestUnreadable}
-use Rattle.cells.specs.Row.{cellCount, rowOf}
-use Rattle.cells.specs.declared.number.Reading.{Reading}
-use Rattle.cells.specs.declared.row.Cell.{Cell}
+use Rattle.cells.specs.Reading.{lowestUnreadable}
+use Rattle.cells.specs.Row.{cellCount}
 use Rattle.cells.specs.declared.row.Cell.the-variants.{Blank}
-use Rattle.cells.specs.declared.row.HostCell.{HostCell}
-use Rattle.cells.specs.declared.row.HostCell.the-variants.{Blank as Empty}
-use Rattle.cells.specs.declared.row.Slot.{Slot}
+use Rattle.cells.specs.declared.row.Row.{Row}
 use Rattle.cells.proofs.FillLaws.{fill-step, fill-end}
-use Rattle.cells.proofs.LowestLaws.{lowest-step, lowest-end}
-use Rattle.cells.proofs.ReadingLaws.{asRead, read-given, read-refused, says-refused, says-row}
+use Rattle.cells.proofs.LowestLaws.{lowest-end}
+use Rattle.cells.proofs.ReadingLaws.{says-refused, says-row, asRead, read-given, read-refused, unreadable, wanted, search-on, wanted-length, wanted-at}
 use Rattle.cells.proofs.reading.read_cells.Statement.{statement}
 use Rattle.cells.proofs.reading.read_cells.Tie as tie
-use Rattle.cells.proofs.reading.read_cells.Reads as reads
-
-abbrev unreadable : ℕ → HostCell → Bool
-unreadable n cell = isUnreadable (readCell cell)
-
-abbrev wanted : List HostCell → List Slot
-wanted cells = rowOf (asRead cells) .cells
-
--- a search for an unreadable cell that has come to cell i, which reads as r
-search-on : (cells : List HostCell) (i : ℕ) (r : Reading) → i < length cells → r ≡ readCell (getD cells i Empty)
-    → lowest unreadable (i + 1) (drop i cells) ≡ cond (isUnreadable r) (i + 1) (lowest unreadable (i + 1 + 1) (drop (i + 1) cells))
-search-on cells i r h e = lowest-step unreadable cells i (i + 1) Empty (isUnreadable r) h (ap isUnreadable (sym e))
-
-wanted-length : (cells : List HostCell) → length (wanted cells) ≡ length cells
-wanted-length cells = length-map (asRead cells) (λ (cell : Cell). record { cell = cell }) ∙ length-map cells (λ (cell : HostCell). cellRead (readCell cell))
-
-wanted-at : (cells : List HostCell) (i : ℕ) (r : Reading) → r ≡ readCell (getD cells i Empty) → getD (wanted cells) i (record { cell = Blank }) ≡ record { cell = cellRead r }
-wanted-at cells i r e =
-    List·getD-map (λ (cell : Cell). record { cell = cell }) (asRead cells) i Blank
-    ∙ ap (λ (cell : Cell). record { cell = cell }) (List·getD-map (λ (cell : HostCell). cellRead (readCell cell)) cells i Empty ∙ ap cellRead (sym e))
 
 abbrev Inv-loop : tie.InvT-loop
-Inv-loop cells slots₀ i₀ slots i =
+Inv-loop cells row₀ i₀ row i =
     (i ≤ cellCount)
-    × (length slots ≡ cellCount)
-    × (take i slots ≡ take i (wanted cells))
+    × (length (row .cells) ≡ cellCount)
+    × (take i (row .cells) ≡ take i (wanted cells))
     × (lowestUnreadable cells ≡ lowest unreadable (i + 1) (drop i cells))
 
 abbrev μ-loop : tie.MeasureT-loop
-μ-loop cells slots₀ i₀ slots i = cellCount - i
+μ-loop cells row₀ i₀ row i = cellCount - i
+
+blank-row-requires : tie.Need-blank-row-requires Inv-loop μ-loop
+blank-row-requires c κs = search needs
 
 loop-holds : tie.Need-loop-holds Inv-loop μ-loop
-loop-holds c = (omega arith, refl, refl, refl)
+loop-holds c = (omega arith, ap (λ (row : Row). length (row .cells)) (c .blank-row .ensures), refl, refl)
 
 mul-read-cell : tie.Need-mul-read-cell Inv-loop μ-loop
 mul-read-cell c = search needs
@@ -67,11 +44,11 @@ read-cell-requires c κs = search needs
 enum-told : tie.Need-enum-told Inv-loop μ-loop
 enum-told c = search needs
 
-add-t15 : tie.Need-add-t15 Inv-loop μ-loop
-add-t15 c = search needs
+add-t13 : tie.Need-add-t13 Inv-loop μ-loop
+add-t13 c = search needs
 
-cast-t16 : tie.Need-cast-t16 Inv-loop μ-loop
-cast-t16 c = search needs
+cast-t14 : tie.Need-cast-t14 Inv-loop μ-loop
+cast-t14 c = search needs
 
 refused-requires : tie.Need-refused-requires Inv-loop μ-loop
 refused-requires c κs = search needs
@@ -80,20 +57,20 @@ returns : tie.Need-returns Inv-loop μ-loop
 returns c =
     let r = c .before .before .before in
     let l = r .before .before .before in
-    let cells = l .before .args .t1 in
+    let cells = l .before .before .args .t1 in
     let i = l .loop .i in
     let told = sym (c .before .enum-told .given .1) ∙ r .read-cell .ensures in
     says-refused _ _ _ (c .refused .ensures)
-    (read-refused cells i (l .loop .inv .3 ∙ search-on cells i _ (omega (arith, l .before .good .0 .1 .0 .1)) told))
+    (read-refused cells i (l .loop .inv .3 ∙ search-on cells i _ (omega (arith, l .before .before .good .0 .1 .0 .1)) told))
 
 enum-known-reading : tie.Need-enum-known-reading Inv-loop μ-loop
 enum-known-reading c = search needs
 
-mul-slots : tie.Need-mul-slots Inv-loop μ-loop
-mul-slots c = search needs
+mul-t17 : tie.Need-mul-t17 Inv-loop μ-loop
+mul-t17 c = search needs
 
-array-set-from-slots : tie.Need-array-set-from-slots Inv-loop μ-loop
-array-set-from-slots c = search needs
+element-set-from-row : tie.Need-element-set-from-row Inv-loop μ-loop
+element-set-from-row c = search needs
 
 add-i : tie.Need-add-i Inv-loop μ-loop
 add-i c = search needs
@@ -105,10 +82,10 @@ loop-again : tie.Need-loop-again Inv-loop μ-loop
 loop-again c =
     let r = c .before .before .before in
     let l = r .before .before .before in
-    let cells = l .before .args .t1 in
-    let slots = l .loop .slots in
+    let cells = l .before .before .args .t1 in
+    let slots = l .loop .row .cells in
     let i = l .loop .i in
-    let inside : i < length cells = omega (arith, l .before .good .0 .1 .0 .1) in
+    let inside : i < length cells = omega (arith, l .before .before .good .0 .1 .0 .1) in
     let told = sym (c .before .reading .given .1) ∙ r .read-cell .ensures in (
       omega arith,
       length-set slots i _ ∙ l .loop .inv .1,
@@ -120,10 +97,10 @@ loop-again c =
 returns-2 : tie.Need-returns-2 Inv-loop μ-loop
 returns-2 c =
     let l = c .before in
-    let cells = l .before .args .t1 in
-    let n : length cells ≡ cellCount = l .before .good .0 .1 .0 .1 in
-    let same : l .loop .slots ≡ wanted cells =
-    fill-end (l .loop .slots) (wanted cells) (l .loop .i) (omega arith) (omega (arith, wanted-length cells)) (l .loop .inv .2) in
+    let cells = l .before .before .args .t1 in
+    let n : length cells ≡ cellCount = l .before .before .good .0 .1 .0 .1 in
+    let same : l .loop .row .cells ≡ wanted cells =
+    fill-end (l .loop .row .cells) (wanted cells) (l .loop .i) (omega arith) (omega (arith, wanted-length cells)) (l .loop .inv .2) in
     rw same
     (says-row (asRead cells) _ (read-given cells (l .loop .inv .3 ∙ lowest-end unreadable cells (l .loop .i) (l .loop .i + 1) (omega arith))))
 
@@ -133,18 +110,19 @@ read-cells-spec =
     (tie.spec
     Inv-loop
     μ-loop
+    blank-row-requires
     loop-holds
     mul-read-cell
     array-copy-out-read-cell
     read-cell-requires
     enum-told
-    add-t15
-    cast-t16
+    add-t13
+    cast-t14
     refused-requires
     returns
     enum-known-reading
-    mul-slots
-    array-set-from-slots
+    mul-t17
+    element-set-from-row
     add-i
     loop-less
     loop-again
