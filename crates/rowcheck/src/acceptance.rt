@@ -8,62 +8,64 @@ use sp64::tables::Stress;
 use sp64::tables::duration_factor;
 use sp64::tables::slenderness_limit;
 use sp64::tables::table_strength;
+ghost use mathlib.Core.Bool.{false};
 ghost use mathlib.Core.Path.{_≡_};
 ghost use Rattle.rounding.specs.Range.{In};
 ghost use Rattle.cells.specs.Row.{cellsOf};
-ghost use Rattle.member.specs.Cells.{filled, valueOf, within, required, optional, wanted, compressed, knownRow, knownCode, inRange};
+ghost use Rattle.member.specs.Cells.{filled, valueOf, within, required, optional, wanted, compressed, knownRow, knownCode, leastOf, greatestOf, inRange};
 ghost use Rattle.member.specs.Acceptance.{breaks, lowestThat};
+ghost use Rattle.member.specs.declared.rule.Rule.the-variants.{Code};
 
-// The ranges of the cells, cell 1 first; a code has none.
-const LEAST: [u64; CELLS] = [
-    0,
-    0,
-    0,
-    0,
-    500,
-    20,
-    60,
-    1,
-    1,
-    0,
-    100,
-    100,
-    0,
-    10,
-    6,
-    1,
-    1,
-    100,
-    100,
-    100,
-    0,
-    100,
-];
+// The least and the greatest value of a cell.
+struct Range {
+    least: u64,
+    greatest: u64,
+}
 
-const GREATEST: [u64; CELLS] = [
-    18_446_744_073_709_551_615,
-    18_446_744_073_709_551_615,
-    18_446_744_073_709_551_615,
-    60,
-    1000,
-    300,
-    2500,
-    100_000_000,
-    10_000_000_000,
-    100_000_000,
-    20_000,
-    20_000,
-    18_446_744_073_709_551_615,
-    300,
-    40,
-    20,
-    20_000,
-    5000,
-    5000,
-    5000,
-    5000,
-    5000,
-];
+fn from_to(least: u64, greatest: u64) -> Range
+    ensures { λ r. ⌜ (r .least ≡ least) × (r .greatest ≡ greatest) ⌝ }
+{
+    Range { least, greatest }
+}
+
+// A code is of any size.
+fn any_code() -> Range
+    ensures { λ r. ⌜ (r .least ≡ 0) × (r .greatest ≡ 18446744073709551615) ⌝ }
+{
+    from_to(0, 18_446_744_073_709_551_615)
+}
+
+// The range of cell n. A match and not an array, which would be built anew at every use.
+fn range_of(n: u32) -> Range
+    requires { ⌜ In 1 22 n ⌝ }
+    ensures { λ r. ⌜ (r .least ≡ leastOf n) × (r .greatest ≡ greatestOf n) ⌝ }
+{
+    match n {
+        1 => any_code(),
+        2 => any_code(),
+        3 => any_code(),
+        4 => from_to(0, 60),
+        5 => from_to(500, 1000),
+        6 => from_to(20, 300),
+        7 => from_to(60, 2500),
+        8 => from_to(1, 100_000_000),
+        9 => from_to(1, 10_000_000_000),
+        10 => from_to(0, 100_000_000),
+        11 => from_to(100, 20_000),
+        12 => from_to(100, 20_000),
+        13 => any_code(),
+        14 => from_to(10, 300),
+        15 => from_to(6, 40),
+        16 => from_to(1, 20),
+        17 => from_to(1, 20_000),
+        18 => from_to(100, 5000),
+        19 => from_to(100, 5000),
+        20 => from_to(100, 5000),
+        21 => from_to(0, 5000),
+        22 => from_to(100, 5000),
+        _ => from_to(0, 0),
+    }
+}
 
 // Whether a cell is filled.
 fn is_filled(cell: Cell) -> bool
@@ -162,8 +164,15 @@ fn is_in_range(n: u32, value: u64) -> bool
     requires { ⌜ In 1 22 n ⌝ }
     ensures { λ r. ⌜ r ≡ inRange n value ⌝ }
 {
-    let i = (n - 1) as usize;
-    (LEAST[i] <= value) & (value <= GREATEST[i])
+    let range = range_of(n);
+    (range.least <= value) & (value <= range.greatest)
+}
+
+// Whether cell n has an unknown code.
+fn is_unknown(kind: Kind, n: u32, cell: Cell) -> bool
+    ensures { λ r. ⌜ r ≡ breaks Code kind false n cell ⌝ }
+{
+    is_filled(cell) & !is_known_code(kind, n, value_of(cell))
 }
 
 // Whether cell n breaks a rule.
@@ -176,7 +185,7 @@ fn is_broken(rule: Rule, kind: Kind, begun: bool, n: u32, cell: Cell) -> bool
     match rule {
         Rule::Begin => filled & is_optional(kind, n),
         Rule::Fill => filled != is_wanted(kind, begun, n),
-        Rule::Code => filled & !is_known_code(kind, n, value),
+        Rule::Code => is_unknown(kind, n, cell),
         Rule::Range => filled & !is_in_range(n, value),
     }
 }
@@ -195,6 +204,29 @@ pub fn lowest_that(rule: Rule, kind: Kind, begun: bool, row: Row) -> u32
             return n;
         }
         i = i + 1;
+    }
+    0
+}
+
+// The lowest cell with an unknown code, 0 where there is none. Only cells 2, 3 and 13 have codes.
+pub fn lowest_unknown(kind: Kind, begun: bool, row: Row) -> u32
+    ensures { λ r. ⌜ r ≡ lowestThat Code kind begun (cellsOf row) ⌝ }
+{
+    let cells = row.cells;
+    let second = cells[1];
+    let grade = second.cell;
+    if is_unknown(kind, 2, grade) {
+        return 2;
+    }
+    let third = cells[2];
+    let regime = third.cell;
+    if is_unknown(kind, 3, regime) {
+        return 3;
+    }
+    let thirteenth = cells[12];
+    let table16 = thirteenth.cell;
+    if is_unknown(kind, 13, table16) {
+        return 13;
     }
     0
 }

@@ -1,5 +1,6 @@
 // Check a row.
 use crate::acceptance::lowest_that;
+use crate::acceptance::lowest_unknown;
 use crate::kind::kind_of;
 use crate::kinds::judge;
 use crate::naming::member_of;
@@ -26,7 +27,7 @@ fn check_kind(kind: Kind, row: Row) -> Answer
     if misfilled != 0 {
         return Answer::Refused(Refusal::Misfilled(misfilled));
     }
-    let unknown = lowest_that(Rule::Code, kind, begun, row);
+    let unknown = lowest_unknown(kind, begun, row);
     if unknown != 0 {
         return Answer::Refused(Refusal::UnknownCode(unknown));
     }

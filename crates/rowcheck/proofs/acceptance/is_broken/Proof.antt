@@ -25,8 +25,8 @@ is-wanted-requires c κs = search needs
 enum-told-3 : tie.Need-enum-told-3
 enum-told-3 c = search needs
 
-is-known-code-requires : tie.Need-is-known-code-requires
-is-known-code-requires c κs = search needs
+is-unknown-requires : tie.Need-is-unknown-requires
+is-unknown-requires c κs = search needs
 
 enum-told-4 : tie.Need-enum-told-4
 enum-told-4 c = search needs
@@ -41,7 +41,7 @@ returns-2 : tie.Need-returns-2
 returns-2 c = let v = c .before .before .before in rw (c .before .enum-told2 .given .1, c .is-wanted .ensures, v .before .is-filled .ensures)
 
 returns-3 : tie.Need-returns-3
-returns-3 c = let v = c .before .before .before in rw (c .before .enum-told3 .given .1, c .is-known-code .ensures, v .value-of .ensures, v .before .is-filled .ensures)
+returns-3 c = rw (c .before .enum-told3 .given .1, c .is-unknown .ensures)
 
 returns-4 : tie.Need-returns-4
 returns-4 c = let v = c .before .before .before in rw (c .before .enum-told4 .given .1, c .is-in-range .ensures, v .value-of .ensures, v .before .is-filled .ensures)
@@ -57,7 +57,7 @@ is-broken-spec =
     enum-told-2
     is-wanted-requires
     enum-told-3
-    is-known-code-requires
+    is-unknown-requires
     enum-told-4
     is-in-range-requires
     returns

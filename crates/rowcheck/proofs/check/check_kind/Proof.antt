@@ -34,16 +34,16 @@ lowest-that-requires-2 c κs = search needs
 returns : tie.Need-returns
 returns c = sym (ap judged (fill-refused _ _ (begun-is (c .before .before)) (c .before .lowest-that2 .ensures) (c .if1 .taken)))
 
-lowest-that-requires-3 : tie.Need-lowest-that-requires-3
-lowest-that-requires-3 c κs = search needs
+lowest-unknown-requires : tie.Need-lowest-unknown-requires
+lowest-unknown-requires c κs = search needs
 
 returns-2 : tie.Need-returns-2
 returns-2 c =
     let fill = c .before .before in
-    sym (ap judged (code-refused _ _ (begun-is (fill .before .before)) (sym (fill .before .lowest-that2 .ensures) ∙ fill .if1 .left) (c .before .lowest-that3 .ensures) (c .if2 .taken)))
+    sym (ap judged (code-refused _ _ (begun-is (fill .before .before)) (sym (fill .before .lowest-that2 .ensures) ∙ fill .if1 .left) (c .before .lowest-unknown .ensures) (c .if2 .taken)))
 
-lowest-that-requires-4 : tie.Need-lowest-that-requires-4
-lowest-that-requires-4 c κs = search needs
+lowest-that-requires-3 : tie.Need-lowest-that-requires-3
+lowest-that-requires-3 c κs = search needs
 
 returns-3 : tie.Need-returns-3
 returns-3 c =
@@ -53,8 +53,8 @@ returns-3 c =
     ap judged (
     range-refused _ _ (begun-is (fill .before .before))
     (sym (fill .before .lowest-that2 .ensures) ∙ fill .if1 .left)
-    (sym (code .before .lowest-that3 .ensures) ∙ code .if2 .left)
-    (c .before .lowest-that4 .ensures)
+    (sym (code .before .lowest-unknown .ensures) ∙ code .if2 .left)
+    (c .before .lowest-that3 .ensures)
     (c .if3 .taken)
     )
     )
@@ -66,8 +66,8 @@ accepted c =
     let fill = code .before .before in
     record {
       fill = sym (fill .before .lowest-that2 .ensures) ∙ fill .if1 .left;
-      code = sym (code .before .lowest-that3 .ensures) ∙ code .if2 .left;
-      range = sym (c .before .lowest-that4 .ensures) ∙ c .if3 .left;
+      code = sym (code .before .lowest-unknown .ensures) ∙ code .if2 .left;
+      range = sym (c .before .lowest-that3 .ensures) ∙ c .if3 .left;
     }
 
 values-of-requires : tie.Need-values-of-requires
@@ -101,9 +101,9 @@ check-kind-spec =
     lowest-that-requires
     lowest-that-requires-2
     returns
-    lowest-that-requires-3
+    lowest-unknown-requires
     returns-2
-    lowest-that-requires-4
+    lowest-that-requires-3
     returns-3
     values-of-requires
     member-of-requires

@@ -1,0 +1,95 @@
+-- Laws of the searches through the cells: which cells a search may pass over, and what a `match` over the cells leaves.
+-- Assumes nothing.
+use Prim.Native.Nat.{ℕ, zero, suc, _+_, _≤_, _<_}
+use native.Mathlib.Omega.{arith}
+use mathlib.Core.Bool.{Bool, true, false, cond, _&&_}
+use mathlib.Core.List.{List}
+use mathlib.Core.Path.{_≡_, refl, sym, ap, _∙_}
+use lib.ListN.{length, getD, drop}
+use borrow.Author.Tests.{ne-eqb}
+use Rattle.cells.specs.Lowest.{lowest}
+use Rattle.cells.specs.Row.{cellCount, cellsOf}
+use Rattle.cells.specs.declared.row.Cell.{Cell}
+use Rattle.cells.specs.declared.row.Cell.the-variants.{Blank}
+use Rattle.cells.specs.declared.row.Row.{Row}
+use Rattle.cells.proofs.RowLaws.{cell-at}
+use Rattle.cells.proofs.LowestLaws.{lowest-step, lowest-end}
+use Rattle.member.specs.Acceptance.{breaks, lowestThat}
+use Rattle.member.specs.Cells.{filled}
+use Rattle.member.specs.declared.kind.Kind.{Kind}
+use Rattle.member.specs.declared.rule.Rule.{Rule}
+use Rattle.member.specs.declared.rule.Rule.the-variants.{Code}
+
+-- A, and n is none of `count` numbers from lo on: what the last arm of a `match` with an arm for each knows
+abbrev pub NoneOf : Type 0 → ℕ → ℕ → ℕ → Type 0
+NoneOf A lo zero n = A
+NoneOf A lo (suc count) n = NoneOf (A × (n ≡ lo → ⊥)) (lo + 1) count n
+
+-- a number from lo on that is none of them is past them
+pub past : (A : Type 0) (lo count n : ℕ) → NoneOf A lo count n → A × (lo ≤ n → lo + count ≤ n)
+past A lo zero n none = (none, λ low. omega (arith, low))
+past A lo (suc count) n none =
+    let r = past (A × (n ≡ lo → ⊥)) (lo + 1) count n none in
+    (r .0 .0, λ low. let more : lo + 1 ≤ n = omega (arith, low, r .0 .1) in omega (arith, r .1 more))
+
+-- the search for a rule from place i on
+abbrev pub searchFrom : Rule → Kind → Bool → List Cell → ℕ → ℕ
+searchFrom rule kind begun cells i = lowest (breaks rule kind begun) (i + 1) (drop i cells)
+
+module _ (rule : Rule) (kind : Kind) (begun : Bool) (cells : List Cell) where
+  -- a search that has come to place i, where its test has the outcome t
+  pub search-step : (i : ℕ) (t : Bool) → i < length cells → breaks rule kind begun (i + 1) (getD cells i Blank) ≡ t
+      → searchFrom rule kind begun cells i ≡ cond t (i + 1) (searchFrom rule kind begun cells (i + 1))
+  search-step i t inside e = lowest-step (breaks rule kind begun) cells i (i + 1) Blank t inside e
+
+  -- a search passes over k cells that keep the rule
+  pub search-over : (k i : ℕ) → i + k ≤ length cells → ((j : ℕ) → i ≤ j → j < i + k → breaks rule kind begun (j + 1) (getD cells j Blank) ≡ false)
+      → searchFrom rule kind begun cells i ≡ searchFrom rule kind begun cells (i + k)
+  search-over zero i inside keep = let e : i ≡ i + 0 = omega arith in ap (searchFrom rule kind begun cells) e
+  search-over (suc k) i inside keep =
+      let e : i + 1 + k ≡ i + suc k = omega arith in
+      search-step i false (omega arith) (keep i (omega arith) (omega arith))
+      ∙ search-over k (i + 1) (omega arith) (λ j low high. keep j (omega (arith, low)) (omega (arith, high)))
+      ∙ ap (searchFrom rule kind begun cells) e
+
+-- the cell at place i, by the code's test b of its slot, which has the outcome t
+pub tested : (rule : Rule) (kind : Kind) (begun : Bool) (row : Row) (n i : ℕ) {b t : Bool}
+    → b ≡ breaks rule kind begun n (getD (row .cells) i (record { cell = Blank }) .cell)
+    → b ≡ t
+    → breaks rule kind begun n (getD (cellsOf row) i Blank) ≡ t
+tested rule kind begun row n i test outcome = ap (breaks rule kind begun n) (cell-at row i) ∙ sym test ∙ outcome
+
+-- only cells 2, 3 and 13 have codes
+no-code : (kind : Kind) (begun : Bool) (n : ℕ) (cell : Cell) → (n ≡ 2 → ⊥) → (n ≡ 3 → ⊥) → (n ≡ 13 → ⊥) → breaks Code kind begun n cell ≡ false
+no-code kind begun n cell a b c = rw (ne-eqb n 2 a, ne-eqb n 3 b, ne-eqb n 13 c) (and-false (filled cell))
+  where
+    and-false : (t : Bool) → (t && false) ≡ false
+    and-false true = refl
+    and-false false = refl
+
+-- the search for an unknown code, by the tests of these three
+module _ (kind : Kind) (begun : Bool) (cells : List Cell) (whole : length cells ≡ cellCount) where
+  abbrev codesFrom : ℕ → ℕ
+  codesFrom = searchFrom Code kind begun cells
+
+  over : (k i : ℕ) → i + k ≤ cellCount → ((j : ℕ) → i ≤ j → j < i + k → (j + 1 ≡ 2 → ⊥) × (j + 1 ≡ 3 → ⊥) × (j + 1 ≡ 13 → ⊥)) → codesFrom i ≡ codesFrom (i + k)
+  over k i inside other =
+      search-over Code kind begun cells k i (omega (arith, whole))
+      (λ j low high. let o = other j low high in no-code kind begun (j + 1) (getD cells j Blank) (o .0) (o .1) (o .2))
+
+  pub search-codes : (t2 t3 t13 : Bool)
+      → breaks Code kind begun 2 (getD cells 1 Blank) ≡ t2
+      → breaks Code kind begun 3 (getD cells 2 Blank) ≡ t3
+      → breaks Code kind begun 13 (getD cells 12 Blank) ≡ t13
+      → lowestThat Code kind begun cells ≡ cond t2 2 (cond t3 3 (cond t13 13 0))
+  unfolding lowestThat
+  search-codes t2 t3 t13 e2 e3 e13 =
+      let step = search-step Code kind begun cells in
+      let first : codesFrom 0 ≡ codesFrom 1 = over 1 0 (omega arith) (λ j low high. (λ e. omega (arith, high, e), λ e. omega (arith, high, e), λ e. omega (arith, high, e))) in
+      let grade : codesFrom 1 ≡ cond t2 2 (codesFrom 2) = step 1 t2 (omega (arith, whole)) e2 in
+      let regime : codesFrom 2 ≡ cond t3 3 (codesFrom 3) = step 2 t3 (omega (arith, whole)) e3 in
+      let between : codesFrom 3 ≡ codesFrom 12 = over 9 3 (omega arith) (λ j low high. (λ e. omega (arith, low, e), λ e. omega (arith, low, e), λ e. omega (arith, high, e))) in
+      let table16 : codesFrom 12 ≡ cond t13 13 (codesFrom 13) = step 12 t13 (omega (arith, whole)) e13 in
+      let last : codesFrom 13 ≡ codesFrom 22 = over 9 13 (omega arith) (λ j low high. (λ e. omega (arith, low, e), λ e. omega (arith, low, e), λ e. omega (arith, low, e))) in
+      let end : codesFrom 22 ≡ 0 = lowest-end (breaks Code kind begun) cells 22 23 (omega (arith, whole)) in
+      rw (first, grade, regime, between, table16, last, end)
