@@ -1,0 +1,4 @@
+// What the program prints of packed rows.
+pub mod line;
+pub mod output;
+pub mod text;

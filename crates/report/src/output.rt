@@ -1,0 +1,44 @@
+// All lines for an input, one after another.
+use crate::line::line_at;
+use crate::text::Line;
+ghost use mathlib.Core.Path.{_≡_};
+ghost use mathlib.Core.List.{_++_};
+ghost use Prim.Native.Nat.{_+_, _≤_};
+ghost use lib.ListN.{length, drop};
+ghost use lib.Seq.{paste};
+ghost use Rattle.io.specs.Counts.{Counts};
+ghost use Rattle.report.specs.Output.{linesOf, joined, roomFor};
+
+// Writes a line's text from a place on.
+fn put_line(line: Line, out: &mut [u8], at: usize)
+    requires { ⌜ (line .len ≤ length (line .text)) × (at + line .len ≤ length (now out)) ⌝ }
+    ensures { λ _. ⌜ now (out .exit) ≡ paste (now (out .entry)) at (line .text) (line .len) ⌝ }
+{
+    let text = line.text;
+    let mut i: usize = 0;
+    while i < line.len {
+        out[at + i] = text[i];
+        i = i + 1;
+    }
+}
+
+// Writes the lines for an input, and answers how many bytes they are.
+pub fn write_lines(input: &[u8], out: &mut [u8]) -> usize
+    requires { ⌜ roomFor (length (now input)) ≤ length (now out) ⌝ }
+    ensures count { λ r. ⌜ r ≡ length (joined (linesOf (now (input .entry)))) ⌝ }
+    ensures buffer { λ r. ⌜ now (out .exit) ≡ joined (linesOf (now (input .entry))) ++ drop r (now (out .entry)) ⌝ }
+    ensures inside { λ r. ⌜ Counts r (now (out .exit)) ⌝ }
+{
+    let mut at: usize = 0;
+    let mut number: u64 = 1;
+    let mut len: usize = 0;
+    while at < input.len() {
+        let step = line_at(input, at, number);
+        let line = step.line;
+        put_line(line, out, len);
+        len = len + line.len;
+        at = step.next;
+        number = number + 1;
+    }
+    len
+}
