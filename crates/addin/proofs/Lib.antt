@@ -1,0 +1,4 @@
+pub mod EntryLaws
+pub mod HostDemand
+pub mod RefusalNumbers
+pub mod EntryMeaning
