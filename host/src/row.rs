@@ -1,0 +1,28 @@
+//! A row as the host has it, and its bytes.
+
+/// How many cells a row has.
+pub const CELLS: usize = 22;
+
+/// The bytes of the host's row: for each cell one that says whether it is filled and eight of the float.
+pub const ROW_BYTES: usize = 9 * CELLS;
+
+/// The bytes of an answer: three floats.
+pub const ANSWER_BYTES: usize = 24;
+
+/// The most bytes that a packed row takes.
+pub const PACKED_BYTES: usize = 97;
+
+/// The cells of a row, cell 1 first: blank or a float.
+pub type HostRow = [Option<f64>; CELLS];
+
+/// The bytes that stand for a row of cells.
+pub fn host_bytes(cells: &HostRow) -> [u8; ROW_BYTES] {
+    let mut bytes = [0; ROW_BYTES];
+    for (cell, part) in cells.iter().zip(bytes.chunks_exact_mut(9)) {
+        if let Some(number) = cell {
+            part[0] = 1;
+            part[1..].copy_from_slice(&number.to_bits().to_le_bytes());
+        }
+    }
+    bytes
+}

@@ -1,0 +1,102 @@
+//! The fields of a line, and a field as it is written.
+//!
+//! A line is a row: quotes do not reach across lines, so that one quote too few spoils its own row and no other.
+use std::borrow::Cow;
+use std::io::{self, Write};
+
+/// The bytes that may separate fields, the likelier first where a line has as many of one as of another.
+pub const SEPARATORS: [u8; 3] = [b'\t', b';', b','];
+
+/// The fields of a line that are still to come.
+#[derive(Clone)]
+pub struct Fields<'a> {
+    rest: Option<&'a [u8]>,
+    separator: u8,
+}
+
+impl<'a> Fields<'a> {
+    pub fn of(line: &'a [u8], separator: u8) -> Fields<'a> {
+        Fields {
+            rest: Some(line),
+            separator,
+        }
+    }
+
+    pub fn none() -> Fields<'a> {
+        Fields {
+            rest: None,
+            separator: b',',
+        }
+    }
+}
+
+impl<'a> Iterator for Fields<'a> {
+    type Item = Cow<'a, [u8]>;
+
+    fn next(&mut self) -> Option<Cow<'a, [u8]>> {
+        let rest = self.rest?;
+        let (quoted, after) = match rest.strip_prefix(b"\"") {
+            Some(inside) => {
+                let (content, after) = unquoted(inside);
+                (Some(content), after)
+            }
+            None => (None, rest),
+        };
+        let end = after.iter().position(|&byte| byte == self.separator);
+        self.rest = end.map(|at| &after[at + 1..]);
+        let plain = &after[..end.unwrap_or(after.len())];
+        Some(match quoted {
+            Some(mut content) => {
+                content.extend_from_slice(plain);
+                Cow::Owned(content)
+            }
+            None => Cow::Borrowed(plain),
+        })
+    }
+}
+
+/// The content up to the closing quote, doubled quotes taken for one, and what follows; without a closing quote, all.
+fn unquoted(inside: &[u8]) -> (Vec<u8>, &[u8]) {
+    let mut content = Vec::new();
+    let mut rest = inside;
+    while let Some(at) = rest.iter().position(|&byte| byte == b'"') {
+        content.extend_from_slice(&rest[..at]);
+        rest = &rest[at + 1..];
+        match rest.strip_prefix(b"\"") {
+            Some(after) => {
+                content.push(b'"');
+                rest = after;
+            }
+            None => return (content, rest),
+        }
+    }
+    content.extend_from_slice(rest);
+    (content, &[])
+}
+
+/// Whether a field has no content.
+pub fn is_empty(field: &[u8]) -> bool {
+    field.iter().all(u8::is_ascii_whitespace)
+}
+
+/// Whether a line has no content: empty, or separators and nothing else, as spreadsheets save an empty row.
+pub fn is_blank(line: &[u8]) -> bool {
+    line.iter()
+        .all(|byte| byte.is_ascii_whitespace() || SEPARATORS.contains(byte))
+}
+
+/// Writes a field, in quotes where its content asks for them.
+pub fn write(output: &mut impl Write, field: &[u8], separator: u8) -> io::Result<()> {
+    let special = |byte: &u8| *byte == separator || matches!(byte, b'"' | b'\r' | b'\n');
+    if !field.iter().any(special) {
+        return output.write_all(field);
+    }
+    output.write_all(b"\"")?;
+    for (i, part) in field.split(|&byte| byte == b'"').enumerate() {
+        if i > 0 {
+            output.write_all(b"\"\"")?;
+        }
+        output.write_all(part)?;
+    }
+    output.write_all(b"\"")
+}

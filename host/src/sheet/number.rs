@@ -1,0 +1,108 @@
+//! A cell as it was typed, and the number that it stands for.
+
+/// What a cell's text is.
+#[derive(Clone, Copy, Debug, PartialEq)]
+pub enum Typed {
+    Blank,
+    Number(f64),
+    /// A mark before the last three digits, where both a thousands mark and a decimal mark would be common.
+    Unclear,
+    /// Anything else.
+    Text,
+}
+
+impl Typed {
+    /// The cell that the add-in gets: it refuses a NaN itself.
+    pub fn host_cell(self) -> Option<f64> {
+        match self {
+            Typed::Blank => None,
+            Typed::Number(number) => Some(number),
+            Typed::Unclear | Typed::Text => Some(f64::NAN),
+        }
+    }
+
+    /// The whole number that the cell holds, if it does.
+    pub fn whole(self) -> Option<u64> {
+        match self {
+            Typed::Number(number)
+                if number >= 0.0 && number < u64::MAX as f64 && number.fract() == 0.0 =>
+            {
+                Some(number as u64)
+            }
+            _ => None,
+        }
+    }
+}
+
+/// The marks that may stand before decimals.
+#[derive(Clone, Copy, Debug, PartialEq, Eq)]
+pub enum DecimalMark {
+    Point,
+    PointOrComma,
+}
+
+/// Reads a cell's text: a sign, digits in a row or in groups of three after spaces, decimals, an exponent.
+pub fn read(text: &str, mark: DecimalMark) -> Typed {
+    let text = text.trim();
+    if text.is_empty() {
+        return Typed::Blank;
+    }
+    let (sign, unsigned) = match text.as_bytes()[0] {
+        b'-' => ("-", &text[1..]),
+        b'+' => ("", &text[1..]),
+        _ => ("", text),
+    };
+    let (mantissa, exponent) = unsigned.split_once(['e', 'E']).unwrap_or((unsigned, "0"));
+    let (whole, decimals) = split_at_mark(mantissa, mark);
+    let Some(digits) = without_grouping(whole) else {
+        return Typed::Text;
+    };
+    if !is_digits(decimals) || digits.len() + decimals.len() == 0 || !is_exponent(exponent) {
+        return Typed::Text;
+    }
+    if mark == DecimalMark::PointOrComma
+        && exponent == "0"
+        && decimals.len() == 3
+        && may_lead_a_group(&digits)
+    {
+        return Typed::Unclear;
+    }
+    match format!("{sign}{digits}.{decimals}e{exponent}").parse() {
+        Ok(number) => Typed::Number(number),
+        Err(_) => Typed::Text,
+    }
+}
+
+/// What stands before the decimal mark and after it.
+fn split_at_mark(mantissa: &str, mark: DecimalMark) -> (&str, &str) {
+    let is_mark = |c| c == '.' || (c == ',' && mark == DecimalMark::PointOrComma);
+    mantissa.split_once(is_mark).unwrap_or((mantissa, ""))
+}
+
+/// The digits of a whole number; none where there is anything else, or spaces that do not part groups of three.
+fn without_grouping(whole: &str) -> Option<String> {
+    let mut groups = whole.split(char::is_whitespace);
+    let first = groups.next().unwrap_or("");
+    let mut digits = String::from(first);
+    for group in groups {
+        if !(1..=3).contains(&first.len()) || group.len() != 3 {
+            return None;
+        }
+        digits.push_str(group);
+    }
+    is_digits(&digits).then_some(digits)
+}
+
+/// Whether a thousands mark may follow these digits.
+fn may_lead_a_group(digits: &str) -> bool {
+    (1..=3).contains(&digits.len()) && !digits.starts_with('0')
+}
+
+fn is_digits(text: &str) -> bool {
+    text.bytes().all(|byte| byte.is_ascii_digit())
+}
+
+fn is_exponent(text: &str) -> bool {
+    let digits = text.strip_prefix(['-', '+']).unwrap_or(text);
+    !digits.is_empty() && is_digits(digits)
+}

@@ -1,0 +1,9 @@
+/* A host in C99. */
+#include "host.h"
+
+int main(void)
+{
+    check_rows();
+    pack_rows();
+    return 0;
+}

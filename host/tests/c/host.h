@@ -1,0 +1,94 @@
+/* What the two test hosts share: filling a row, and printing what the entries answer. C99 and C++11 alike. */
+#ifndef TEST_HOST_H
+#define TEST_HOST_H
+
+#include <stdio.h>
+#include <string.h>
+
+#include "lvl_addin.h"
+#include "lvl_addin.h" /* a second time, as hosts of many files do */
+
+static void fill(uint8_t *row, size_t cell, double number)
+{
+    row[9 * (cell - 1)] = 1;
+    memcpy(row + 9 * (cell - 1) + 1, &number, 8);
+}
+
+/* Row A of the scope paper: a beam that passes on bending. */
+static void fill_beam(uint8_t *row)
+{
+    fill(row, 1, 2);
+    fill(row, 2, 1);
+    fill(row, 3, 3);
+    fill(row, 4, 10);
+    fill(row, 5, 1000);
+    fill(row, 6, 75);
+    fill(row, 7, 300);
+    fill(row, 9, 20000000);
+    fill(row, 10, 20000);
+}
+
+static void print_answer(const char *name, uint64_t code, const uint8_t *answer)
+{
+    double number[3];
+    memcpy(number, answer, sizeof number);
+    printf("%s: %u, utilisation %.0f, count %.0f, check %.0f\n", name, (unsigned)code, number[0], number[1], number[2]);
+}
+
+static void print_code(const char *name, uint64_t code)
+{
+    printf("%s: %u\n", name, (unsigned)code);
+}
+
+/* How many of the bytes are still as they were set before the call. */
+static size_t untouched(const uint8_t *bytes, size_t length, uint8_t was)
+{
+    size_t i, same = 0;
+    for (i = 0; i < length; i++)
+        same += bytes[i] == was;
+    return same;
+}
+
+static void check_rows(void)
+{
+    uint8_t row[LVL_ROW_BYTES], answer[LVL_ANSWER_BYTES];
+
+    memset(row, 0, sizeof row);
+    fill_beam(row);
+    print_answer("row A", lvl_check_row(row, sizeof row, answer, sizeof answer), answer);
+    fill(row, 9, 30000000);
+    print_answer("moment of 30 kN m", lvl_check_row(row, sizeof row, answer, sizeof answer), answer);
+
+    memset(answer, 0xA5, sizeof answer);
+    print_code("row too short", lvl_check_row(row, sizeof row - 1, answer, sizeof answer));
+    print_code("no row", lvl_check_row(NULL, 0, answer, sizeof answer));
+    print_code("answer too short", lvl_check_row(row, sizeof row, answer, sizeof answer - 1));
+    print_code("no answer", lvl_check_row(row, sizeof row, NULL, 0));
+    fill(row, 4, 12.5);
+    print_code("moisture 12.5", lvl_check_row(row, sizeof row, answer, sizeof answer));
+    row[9 * 2] = 7;
+    print_code("first byte of cell 3", lvl_check_row(row, sizeof row, answer, sizeof answer));
+    printf("answer untouched: %u of %u\n", (unsigned)untouched(answer, sizeof answer, 0xA5), (unsigned)sizeof answer);
+}
+
+static void pack_rows(void)
+{
+    uint8_t row[LVL_ROW_BYTES], out[LVL_PACKED_BYTES_MAX];
+    size_t cell;
+
+    memset(row, 0, sizeof row);
+    memset(out, 0xA5, sizeof out);
+    print_code("blank row, too little space", lvl_pack_row(row, sizeof row, out, LVL_PACKED_BYTES_MIN - 1));
+    print_code("blank row, no space", lvl_pack_row(row, sizeof row, NULL, 0));
+    print_code("nothing to pack", lvl_pack_row(NULL, 0, out, sizeof out));
+    printf("buffer untouched: %u of %u\n", (unsigned)untouched(out, sizeof out, 0xA5), (unsigned)sizeof out);
+
+    print_code("blank row", lvl_pack_row(row, sizeof row, out, sizeof out));
+    printf("bytes: %u %u %u, then untouched: %u\n", out[0], out[1], out[2],
+           (unsigned)untouched(out + 3, sizeof out - 3, 0xA5));
+    for (cell = 1; cell <= LVL_CELLS; cell++)
+        fill(row, cell, 17179869183.0);
+    print_code("full row", lvl_pack_row(row, sizeof row, out, sizeof out));
+}
+
+#endif
