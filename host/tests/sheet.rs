@@ -166,7 +166,7 @@ fn the_hall_roof() {
                 "compression + bending",
                 "160 × 500",
                 "pass",
-                "60.6",
+                "80.9",
                 "compression with bending, 7.17",
             ],
         ),
