@@ -1,5 +1,5 @@
 //! Demand 3: whatever rounding does, a pass is a pass of the unrounded rules, and a fail is one of them too once the
-//! forces grow a little. Written from the scope paper alone, in exact fractions, as a witness of its own.
+//! forces grow a little. Written from document 01 alone, in exact fractions, as a witness of its own.
 use crate::answer::Verdict;
 use crate::exact::Ratio;
 use crate::row::CELLS;

@@ -1,4 +1,4 @@
-//! The exact numbers, and demand 3 as it accepts the paper's worked rows and refutes wrong verdicts on them.
+//! The exact numbers, and demand 3 as it accepts document 01's worked rows and refutes wrong verdicts on them.
 use lvl_addin::answer::Verdict;
 use lvl_addin::demand3::{keeps, Cells};
 use lvl_addin::exact::{Ratio, Wide};

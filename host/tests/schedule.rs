@@ -10,7 +10,7 @@ use std::path::{Path, PathBuf};
 use std::process::{Child, Command, Stdio};
 use std::time::Duration;
 
-/// What the paper gives for the bytes 00 00 00 80.
+/// What document 01 gives for the bytes 00 00 00 80.
 const OF_THE_PAPER: &str = "1 refused 2 1\n2 refused 6 1\n";
 
 fn root() -> PathBuf {
@@ -152,7 +152,7 @@ fn nothing_prints_nothing() {
 }
 
 #[test]
-fn the_papers_bytes_print_the_papers_lines() {
+fn the_example_bytes_print_the_example_lines() {
     let input = [0x00, 0x00, 0x00, 0x80];
     assert_eq!(Paper::schedule(&input), OF_THE_PAPER);
     assert_eq!(printed(&input), OF_THE_PAPER);

@@ -1,4 +1,4 @@
-//! The paper's worked rows A to H, on the entries and on the second implementation, with every figure it gives.
+//! Document 01's worked rows A to H, on the entries and on the second implementation, with every figure it gives.
 use lvl_addin::answer::Verdict;
 use lvl_addin::entry;
 use lvl_addin::row::{HostRow, ANSWER_BYTES, CELLS};

@@ -1,6 +1,6 @@
-//! A second implementation of the whole base, written from the paper alone.
+//! A second implementation of the whole base, written from document 01 alone.
 //!
-//! The add-in is compared with it, row by row, and its speed is held to it. Every rule of the paper is one method
+//! The add-in is compared with it, row by row, and its speed is held to it. Every rule of document 01 is one method
 //! of [`Rules`]: [`Paper`] keeps them all, and the wrong copies in the tests change one each.
 
 mod acceptance;
@@ -22,7 +22,7 @@ pub use rules::Rules;
 pub use schedule::INPUT_BYTES;
 pub use verdict::Outcome;
 
-/// The rules as the paper has them.
+/// The rules as document 01 has them.
 pub struct Paper;
 
 impl Rules for Paper {}

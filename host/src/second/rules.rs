@@ -1,4 +1,4 @@
-//! The catalogue of the paper's rules: one method each, which the files beside this one spell out.
+//! The catalogue of document 01's rules: one method each, which the files beside this one spell out.
 //!
 //! The rules call one another through this trait and never directly, so that a copy which changes one of them
 //! changes nothing else.
@@ -13,7 +13,7 @@ use crate::answer::{Refusal, Verdict};
 use crate::row::ANSWER_BYTES;
 use std::ops::RangeInclusive;
 
-/// The paper's rules. Every method is provided; units are those of the paper.
+/// Document 01's rules. Every method is provided; units are its own.
 pub trait Rules: Sized {
     // Codes and tables.
 

@@ -3,14 +3,14 @@ use lvl_addin::answer::{Refusal, Verdict};
 use lvl_addin::row::ANSWER_BYTES;
 use lvl_addin::second::{Cells, Paper, Rules};
 
-/// Reads a row as the paper does, once its bytes are changed.
+/// Reads a row as document 01 does, once its bytes are changed.
 fn read_changed(row: &[u8], change: impl Fn(&mut [u8])) -> Result<Cells, Refusal> {
     let mut row = row.to_vec();
     row.chunks_exact_mut(9).for_each(change);
     Paper::read_row(&row)
 }
 
-/// The bits of a float's cell as the paper reads them.
+/// The bits of a float's cell as document 01 reads them.
 fn float(bits: u64) -> f64 {
     f64::from_bits(bits)
 }

@@ -73,7 +73,7 @@ fn every_wrong_copy_is_seen() {
 
 /// The right rules must not be seen, or seeing would mean nothing.
 #[test]
-fn the_paper_is_not_seen() {
+fn the_right_rules_are_not_seen_as_wrong() {
     use lvl_addin::second::Paper;
     let evidence = Evidence::gather();
     assert!(!evidence::checking::<Paper>(&evidence));
