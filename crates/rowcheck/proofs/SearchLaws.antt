@@ -93,3 +93,8 @@ module _ (kind : Kind) (begun : Bool) (cells : List Cell) (whole : length cells 
       let last : codesFrom 13 ≡ codesFrom 22 = over 9 13 (omega arith) (λ j low high. (λ e. omega (arith, low, e), λ e. omega (arith, low, e), λ e. omega (arith, low, e))) in
       let end : codesFrom 22 ≡ 0 = lowest-end (breaks Code kind begun) cells 22 23 (omega (arith, whole)) in
       rw (first, grade, regime, between, table16, last, end)
+
+-- whether a joint is begun does not matter to it
+pub codes-begun-or-not : (kind : Kind) (begun : Bool) (cells : List Cell) → lowestThat Code kind false cells ≡ lowestThat Code kind begun cells
+unfolding lowestThat
+codes-begun-or-not kind begun cells = refl

@@ -209,8 +209,8 @@ pub fn lowest_that(rule: Rule, kind: Kind, begun: bool, row: Row) -> u32
 }
 
 // The lowest cell with an unknown code, 0 where there is none. Only cells 2, 3 and 13 have codes.
-pub fn lowest_unknown(kind: Kind, begun: bool, row: Row) -> u32
-    ensures { λ r. ⌜ r ≡ lowestThat Code kind begun (cellsOf row) ⌝ }
+pub fn lowest_unknown(kind: Kind, row: Row) -> u32
+    ensures { λ r. ⌜ r ≡ lowestThat Code kind false (cellsOf row) ⌝ }
 {
     let cells = row.cells;
     let second = cells[1];

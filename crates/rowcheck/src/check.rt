@@ -27,7 +27,7 @@ fn check_kind(kind: Kind, row: Row) -> Answer
     if misfilled != 0 {
         return Answer::Refused(Refusal::Misfilled(misfilled));
     }
-    let unknown = lowest_unknown(kind, begun, row);
+    let unknown = lowest_unknown(kind, row);
     if unknown != 0 {
         return Answer::Refused(Refusal::UnknownCode(unknown));
     }

@@ -30,23 +30,23 @@ is-unknown-requires-3 : tie.Need-is-unknown-requires-3
 is-unknown-requires-3 c κs = search needs
 
 all-cells : (c : tie.Start) → length (cellsOf (c .args .row)) ≡ cellCount
-all-cells c = let row = c .args .row in length-cells row (sym (length-map (row .cells) _) ∙ c .good .1 .1 .0 .1 .1 .0 .1 .0 .1)
+all-cells c = let row = c .args .row in length-cells row (sym (length-map (row .cells) _) ∙ c .good .1 .0 .1 .1 .0 .1 .0 .1)
 
 returns : tie.Need-returns
 returns c =
     let s = c .before .before .before .before in
     let a = s .args in
-    let grade = tested Code (a .kind) (a .begun) (a .row) 2 1 (c .before .is-unknown .ensures) (c .if1 .taken) in
-    sym (search-codes (a .kind) (a .begun) (cellsOf (a .row)) (all-cells s) true _ _ grade refl refl)
+    let grade = tested Code (a .kind) false (a .row) 2 1 (c .before .is-unknown .ensures) (c .if1 .taken) in
+    sym (search-codes (a .kind) false (cellsOf (a .row)) (all-cells s) true _ _ grade refl refl)
 
 returns-2 : tie.Need-returns-2
 returns-2 c =
     let g = c .before .before .before in
     let s = g .before .before .before .before in
     let a = s .args in
-    let grade = tested Code (a .kind) (a .begun) (a .row) 2 1 (g .before .is-unknown .ensures) (g .if1 .left) in
-    let regime = tested Code (a .kind) (a .begun) (a .row) 3 2 (c .before .is-unknown2 .ensures) (c .if2 .taken) in
-    sym (search-codes (a .kind) (a .begun) (cellsOf (a .row)) (all-cells s) false true _ grade regime refl)
+    let grade = tested Code (a .kind) false (a .row) 2 1 (g .before .is-unknown .ensures) (g .if1 .left) in
+    let regime = tested Code (a .kind) false (a .row) 3 2 (c .before .is-unknown2 .ensures) (c .if2 .taken) in
+    sym (search-codes (a .kind) false (cellsOf (a .row)) (all-cells s) false true _ grade regime refl)
 
 returns-3 : tie.Need-returns-3
 returns-3 c =
@@ -54,10 +54,10 @@ returns-3 c =
     let g = r .before .before .before in
     let s = g .before .before .before .before in
     let a = s .args in
-    let grade = tested Code (a .kind) (a .begun) (a .row) 2 1 (g .before .is-unknown .ensures) (g .if1 .left) in
-    let regime = tested Code (a .kind) (a .begun) (a .row) 3 2 (r .before .is-unknown2 .ensures) (r .if2 .left) in
-    let table16 = tested Code (a .kind) (a .begun) (a .row) 13 12 (c .before .is-unknown3 .ensures) (c .if3 .taken) in
-    sym (search-codes (a .kind) (a .begun) (cellsOf (a .row)) (all-cells s) false false true grade regime table16)
+    let grade = tested Code (a .kind) false (a .row) 2 1 (g .before .is-unknown .ensures) (g .if1 .left) in
+    let regime = tested Code (a .kind) false (a .row) 3 2 (r .before .is-unknown2 .ensures) (r .if2 .left) in
+    let table16 = tested Code (a .kind) false (a .row) 13 12 (c .before .is-unknown3 .ensures) (c .if3 .taken) in
+    sym (search-codes (a .kind) false (cellsOf (a .row)) (all-cells s) false false true grade regime table16)
 
 returns-4 : tie.Need-returns-4
 returns-4 c =
@@ -65,10 +65,10 @@ returns-4 c =
     let g = r .before .before .before in
     let s = g .before .before .before .before in
     let a = s .args in
-    let grade = tested Code (a .kind) (a .begun) (a .row) 2 1 (g .before .is-unknown .ensures) (g .if1 .left) in
-    let regime = tested Code (a .kind) (a .begun) (a .row) 3 2 (r .before .is-unknown2 .ensures) (r .if2 .left) in
-    let table16 = tested Code (a .kind) (a .begun) (a .row) 13 12 (c .before .is-unknown3 .ensures) (c .if3 .left) in
-    sym (search-codes (a .kind) (a .begun) (cellsOf (a .row)) (all-cells s) false false false grade regime table16)
+    let grade = tested Code (a .kind) false (a .row) 2 1 (g .before .is-unknown .ensures) (g .if1 .left) in
+    let regime = tested Code (a .kind) false (a .row) 3 2 (r .before .is-unknown2 .ensures) (r .if2 .left) in
+    let table16 = tested Code (a .kind) false (a .row) 13 12 (c .before .is-unknown3 .ensures) (c .if3 .left) in
+    sym (search-codes (a .kind) false (cellsOf (a .row)) (all-cells s) false false false grade regime table16)
 
 pub lowest-unknown-spec : {M : Type 1} → statement M
 lowest-unknown-spec =

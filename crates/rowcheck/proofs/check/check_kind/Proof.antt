@@ -9,12 +9,14 @@ use borrow.Author.Needs.{needs}
 use Rattle.cells.specs.Refusal.{gives}
 use Rattle.cells.specs.Row.{cellsOf}
 use Rattle.cells.proofs.RowLaws.{length-cells}
-use Rattle.member.specs.Acceptance.{isBegun}
+use Rattle.member.specs.Acceptance.{lowestThat, isBegun}
 use Rattle.member.specs.Member.{valuesOf, memberOf}
 use Rattle.member.specs.Ranges.{RangesOf}
 use Rattle.member.specs.Verdict.{verdict, judged}
 use Rattle.member.specs.declared.member.Member.{Member}
 use Rattle.member.proofs.AcceptanceLaws.{Accepted, accepted-ranges, fill-refused, code-refused, range-refused, none-refused}
+use Rattle.member.specs.declared.rule.Rule.the-variants.{Code}
+use Rattle.rowcheck.proofs.SearchLaws.{codes-begun-or-not}
 use Rattle.rowcheck.proofs.check.check_kind.Statement.{statement}
 use Rattle.rowcheck.proofs.check.check_kind.Tie as tie
 
@@ -37,10 +39,15 @@ returns c = sym (ap judged (fill-refused _ _ (begun-is (c .before .before)) (c .
 lowest-unknown-requires : tie.Need-lowest-unknown-requires
 lowest-unknown-requires c κs = search needs
 
+-- what the search for codes found, in a row with a joint begun or not
+found : (c : tie.After-lowest-unknown) → let s = c .before .before .before in
+    c .lowest-unknown .result ≡ lowestThat Code (s .before .args .kind) (begun s) (cellsOf (s .before .args .row))
+found c = let s = c .before .before .before in c .lowest-unknown .ensures ∙ codes-begun-or-not (s .before .args .kind) (begun s) (cellsOf (s .before .args .row))
+
 returns-2 : tie.Need-returns-2
 returns-2 c =
     let fill = c .before .before in
-    sym (ap judged (code-refused _ _ (begun-is (fill .before .before)) (sym (fill .before .lowest-that2 .ensures) ∙ fill .if1 .left) (c .before .lowest-unknown .ensures) (c .if2 .taken)))
+    sym (ap judged (code-refused _ _ (begun-is (fill .before .before)) (sym (fill .before .lowest-that2 .ensures) ∙ fill .if1 .left) (found (c .before)) (c .if2 .taken)))
 
 lowest-that-requires-3 : tie.Need-lowest-that-requires-3
 lowest-that-requires-3 c κs = search needs
@@ -53,7 +60,7 @@ returns-3 c =
     ap judged (
     range-refused _ _ (begun-is (fill .before .before))
     (sym (fill .before .lowest-that2 .ensures) ∙ fill .if1 .left)
-    (sym (code .before .lowest-unknown .ensures) ∙ code .if2 .left)
+    (sym (found (code .before)) ∙ code .if2 .left)
     (c .before .lowest-that3 .ensures)
     (c .if3 .taken)
     )
@@ -66,7 +73,7 @@ accepted c =
     let fill = code .before .before in
     record {
       fill = sym (fill .before .lowest-that2 .ensures) ∙ fill .if1 .left;
-      code = sym (code .before .lowest-unknown .ensures) ∙ code .if2 .left;
+      code = sym (found (code .before)) ∙ code .if2 .left;
       range = sym (c .before .lowest-that3 .ensures) ∙ c .if3 .left;
     }
 
