@@ -1,4 +1,4 @@
-// What the host calls: checking and packing, each after reading.
+// The two entries of the worksheet host. Each reads the row's bytes and then does one thing with the row.
 use cells::answer::write_answer;
 use cells::host_row::read_host_row;
 use cells::refusal::Outcome;
