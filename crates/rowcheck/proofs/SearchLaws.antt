@@ -5,9 +5,9 @@ use native.Mathlib.Omega.{arith}
 use mathlib.Core.Bool.{Bool, true, false, cond, _&&_}
 use mathlib.Core.List.{List}
 use mathlib.Core.Path.{_≡_, refl, sym, ap, _∙_}
-use lib.ListN.{length, getD, drop}
-use borrow.Author.Tests.{ne-eqb}
-use Rattle.cells.specs.Lowest.{lowest}
+use lib.Dec.{eqb}
+use lib.ListN.{length, getD}
+use borrow.Author.Tests.{eq-eqb, eqb-true, ne-eqb}
 use Rattle.cells.specs.Row.{cellCount, cellsOf}
 use Rattle.cells.specs.declared.row.Cell.{Cell}
 use Rattle.cells.specs.declared.row.Cell.the-variants.{Blank}
@@ -18,7 +18,8 @@ use Rattle.member.specs.Acceptance.{breaks, lowestThat}
 use Rattle.member.specs.Cells.{filled}
 use Rattle.member.specs.declared.kind.Kind.{Kind}
 use Rattle.member.specs.declared.rule.Rule.{Rule}
-use Rattle.member.specs.declared.rule.Rule.the-variants.{Code}
+use Rattle.member.specs.declared.rule.Rule.the-variants.{Code, Range}
+use Rattle.rowcheck.specs.Search.{searchFrom}
 
 -- A, and n is none of `count` numbers from lo on: what the last arm of a `match` with an arm for each knows
 abbrev pub NoneOf : Type 0 → ℕ → ℕ → ℕ → Type 0
@@ -31,10 +32,6 @@ past A lo zero n none = (none, λ low. omega (arith, low))
 past A lo (suc count) n none =
     let r = past (A × (n ≡ lo → ⊥)) (lo + 1) count n none in
     (r .0 .0, λ low. let more : lo + 1 ≤ n = omega (arith, low, r .0 .1) in omega (arith, r .1 more))
-
--- the search for a rule from place i on
-abbrev pub searchFrom : Rule → Kind → Bool → List Cell → ℕ → ℕ
-searchFrom rule kind begun cells i = lowest (breaks rule kind begun) (i + 1) (drop i cells)
 
 module _ (rule : Rule) (kind : Kind) (begun : Bool) (cells : List Cell) where
   -- a search that has come to place i, where its test has the outcome t
@@ -98,3 +95,28 @@ module _ (kind : Kind) (begun : Bool) (cells : List Cell) (whole : length cells 
 pub codes-begun-or-not : (kind : Kind) (begun : Bool) (cells : List Cell) → lowestThat Code kind false cells ≡ lowestThat Code kind begun cells
 unfolding lowestThat
 codes-begun-or-not kind begun cells = refl
+
+-- the kind does not matter to ranges, nor does a joint
+pub ranges-of-any-kind : (kind other : Kind) (begun : Bool) (cells : List Cell) → lowestThat Range other false cells ≡ lowestThat Range kind begun cells
+unfolding lowestThat
+ranges-of-any-kind kind other begun cells = refl
+
+-- a search through the whole row
+pub search-whole : (rule : Rule) (kind : Kind) (begun : Bool) (cells : List Cell) → lowestThat rule kind begun cells ≡ searchFrom rule kind begun cells 0
+unfolding lowestThat
+search-whole rule kind begun cells = refl
+
+-- n is what a search of a part found, and `next` the search after it: together they are n where it is some cell, and `next` where it is none
+pub part-found : (n next : ℕ) → (n ≡ 0 → ⊥) → n ≡ cond (eqb n 0) next n
+part-found n next some = rw (ne-eqb n 0 some)
+
+pub part-passed : (n next : ℕ) → n ≡ 0 → cond (eqb n 0) next n ≡ next
+part-passed n next none = rw (eq-eqb n 0 none)
+
+-- after the last part nothing is left to search
+pub part-last : (rule : Rule) (kind : Kind) (begun : Bool) (cells : List Cell) → length cells ≡ cellCount → (n : ℕ) → cond (eqb n 0) (searchFrom rule kind begun cells cellCount) n ≡ n
+part-last rule kind begun cells whole n = rw (lowest-end (breaks rule kind begun) cells cellCount (cellCount + 1) (omega (arith, whole))) (by (eqb n 0) refl)
+  where
+    by : (t : Bool) → eqb n 0 ≡ t → cond t 0 n ≡ n
+    by true e = sym (eqb-true n 0 e)
+    by false e = refl

@@ -1,4 +1,5 @@
 // Which rows are refused, by which cell.
+use crate::ranges::is_in_range;
 use cells::row::CELLS;
 use cells::row::Cell;
 use cells::row::Row;
@@ -8,64 +9,17 @@ use sp64::tables::Stress;
 use sp64::tables::duration_factor;
 use sp64::tables::slenderness_limit;
 use sp64::tables::table_strength;
-ghost use mathlib.Core.Bool.{false};
+ghost use mathlib.Core.Bool.{false, cond};
 ghost use mathlib.Core.Path.{_≡_};
+ghost use Prim.Native.Nat.{_≤_};
+ghost use lib.Dec.{eqb};
 ghost use Rattle.rounding.specs.Range.{In};
-ghost use Rattle.cells.specs.Row.{cellsOf};
-ghost use Rattle.member.specs.Cells.{filled, valueOf, within, required, optional, wanted, compressed, knownRow, knownCode, leastOf, greatestOf, inRange};
+ghost use Rattle.cells.specs.Row.{cellCount, cellsOf};
+ghost use Rattle.member.specs.Cells.{filled, valueOf, within, required, optional, wanted, compressed, knownRow, knownCode};
 ghost use Rattle.member.specs.Acceptance.{breaks, lowestThat};
-ghost use Rattle.member.specs.declared.rule.Rule.the-variants.{Code};
-
-// The least and the greatest value of a cell.
-struct Range {
-    least: u64,
-    greatest: u64,
-}
-
-fn from_to(least: u64, greatest: u64) -> Range
-    ensures { λ r. ⌜ (r .least ≡ least) × (r .greatest ≡ greatest) ⌝ }
-{
-    Range { least, greatest }
-}
-
-// A code is of any size.
-fn any_code() -> Range
-    ensures { λ r. ⌜ (r .least ≡ 0) × (r .greatest ≡ 18446744073709551615) ⌝ }
-{
-    from_to(0, 18_446_744_073_709_551_615)
-}
-
-// The range of cell n. A match and not an array, which would be built anew at every use.
-fn range_of(n: u32) -> Range
-    requires { ⌜ In 1 22 n ⌝ }
-    ensures { λ r. ⌜ (r .least ≡ leastOf n) × (r .greatest ≡ greatestOf n) ⌝ }
-{
-    match n {
-        1 => any_code(),
-        2 => any_code(),
-        3 => any_code(),
-        4 => from_to(0, 60),
-        5 => from_to(500, 1000),
-        6 => from_to(20, 300),
-        7 => from_to(60, 2500),
-        8 => from_to(1, 100_000_000),
-        9 => from_to(1, 10_000_000_000),
-        10 => from_to(0, 100_000_000),
-        11 => from_to(100, 20_000),
-        12 => from_to(100, 20_000),
-        13 => any_code(),
-        14 => from_to(10, 300),
-        15 => from_to(6, 40),
-        16 => from_to(1, 20),
-        17 => from_to(1, 20_000),
-        18 => from_to(100, 5000),
-        19 => from_to(100, 5000),
-        20 => from_to(100, 5000),
-        21 => from_to(0, 5000),
-        22 => from_to(100, 5000),
-        _ => from_to(0, 0),
-    }
-}
+ghost use Rattle.member.specs.declared.kind.Kind.the-variants.{Tension};
+ghost use Rattle.member.specs.declared.rule.Rule.the-variants.{Code, Range};
+ghost use Rattle.rowcheck.specs.Search.{searchFrom};
 
 // Whether a cell is filled.
 fn is_filled(cell: Cell) -> bool
@@ -159,20 +113,19 @@ fn is_known_code(kind: Kind, n: u32, code: u64) -> bool
     }
 }
 
-// Whether the value in cell n is in its range.
-fn is_in_range(n: u32, value: u64) -> bool
-    requires { ⌜ In 1 22 n ⌝ }
-    ensures { λ r. ⌜ r ≡ inRange n value ⌝ }
-{
-    let range = range_of(n);
-    (range.least <= value) & (value <= range.greatest)
-}
-
 // Whether cell n has an unknown code.
 fn is_unknown(kind: Kind, n: u32, cell: Cell) -> bool
     ensures { λ r. ⌜ r ≡ breaks Code kind false n cell ⌝ }
 {
     is_filled(cell) & !is_known_code(kind, n, value_of(cell))
+}
+
+// Whether cell n has a value outside its range.
+fn is_outside(n: u32, cell: Cell) -> bool
+    requires { ⌜ In 1 22 n ⌝ }
+    ensures { λ r. ⌜ r ≡ breaks Range Tension false n cell ⌝ }
+{
+    is_filled(cell) & !is_in_range(n, value_of(cell))
 }
 
 // Whether cell n breaks a rule.
@@ -181,16 +134,15 @@ fn is_broken(rule: Rule, kind: Kind, begun: bool, n: u32, cell: Cell) -> bool
     ensures { λ r. ⌜ r ≡ breaks rule kind begun n cell ⌝ }
 {
     let filled = is_filled(cell);
-    let value = value_of(cell);
     match rule {
         Rule::Begin => filled & is_optional(kind, n),
         Rule::Fill => filled != is_wanted(kind, begun, n),
         Rule::Code => is_unknown(kind, n, cell),
-        Rule::Range => filled & !is_in_range(n, value),
+        Rule::Range => is_outside(n, cell),
     }
 }
 
-// The lowest cell that breaks a rule, 0 where none does.
+// The lowest cell that breaks a rule, 0 where none does. Codes and ranges have quicker searches below.
 pub fn lowest_that(rule: Rule, kind: Kind, begun: bool, row: Row) -> u32
     ensures { λ r. ⌜ r ≡ lowestThat rule kind begun (cellsOf row) ⌝ }
 {
@@ -229,4 +181,38 @@ pub fn lowest_unknown(kind: Kind, row: Row) -> u32
         return 13;
     }
     0
+}
+
+// The lowest cell with a value outside its range, of those from one place up to another; 0 where there is none.
+fn lowest_outside_in(row: Row, from: usize, to: usize) -> u32
+    requires { ⌜ (from ≤ to) × (to ≤ cellCount) ⌝ }
+    ensures { λ r. ⌜ searchFrom Range Tension false (cellsOf row) from ≡ cond (eqb r 0) (searchFrom Range Tension false (cellsOf row) to) r ⌝ }
+{
+    let cells = row.cells;
+    let mut i: usize = from;
+    while i < to {
+        let slot = cells[i];
+        let cell = slot.cell;
+        let n = (i + 1) as u32;
+        if is_outside(n, cell) {
+            return n;
+        }
+        i = i + 1;
+    }
+    0
+}
+
+// The lowest cell with a value outside its range, 0 where there is none. Parts of at most ten cells, which the compiler writes out with the ranges in them.
+pub fn lowest_outside(row: Row) -> u32
+    ensures { λ r. ⌜ r ≡ lowestThat Range Tension false (cellsOf row) ⌝ }
+{
+    let first = lowest_outside_in(row, 0, 7);
+    if first != 0 {
+        return first;
+    }
+    let second = lowest_outside_in(row, 7, 13);
+    if second != 0 {
+        return second;
+    }
+    lowest_outside_in(row, 13, CELLS)
 }

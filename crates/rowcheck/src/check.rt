@@ -1,4 +1,5 @@
 // Check a row.
+use crate::acceptance::lowest_outside;
 use crate::acceptance::lowest_that;
 use crate::acceptance::lowest_unknown;
 use crate::kind::kind_of;
@@ -31,7 +32,7 @@ fn check_kind(kind: Kind, row: Row) -> Answer
     if unknown != 0 {
         return Answer::Refused(Refusal::UnknownCode(unknown));
     }
-    let outside = lowest_that(Rule::Range, kind, begun, row);
+    let outside = lowest_outside(row);
     if outside != 0 {
         return Answer::Refused(Refusal::OutOfRange(outside));
     }

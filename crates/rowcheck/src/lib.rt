@@ -6,3 +6,4 @@ mod governing;
 mod kind;
 mod kinds;
 mod naming;
+mod ranges;

@@ -7,9 +7,6 @@ use Rattle.rowcheck.proofs.acceptance.is_broken.Tie as tie
 is-filled-requires : tie.Need-is-filled-requires
 is-filled-requires c κs = search needs
 
-value-of-requires : tie.Need-value-of-requires
-value-of-requires c κs = search needs
-
 enum-told : tie.Need-enum-told
 enum-told c = search needs
 
@@ -31,27 +28,26 @@ is-unknown-requires c κs = search needs
 enum-told-4 : tie.Need-enum-told-4
 enum-told-4 c = search needs
 
-is-in-range-requires : tie.Need-is-in-range-requires
-is-in-range-requires c κs = search needs
+is-outside-requires : tie.Need-is-outside-requires
+is-outside-requires c κs = search needs
 
 returns : tie.Need-returns
-returns c = let v = c .before .before .before in rw (c .before .enum-told .given .1, c .is-optional .ensures, v .before .is-filled .ensures)
+returns c = rw (c .before .enum-told .given .1, c .is-optional .ensures, c .before .before .before .is-filled .ensures)
 
 returns-2 : tie.Need-returns-2
-returns-2 c = let v = c .before .before .before in rw (c .before .enum-told2 .given .1, c .is-wanted .ensures, v .before .is-filled .ensures)
+returns-2 c = rw (c .before .enum-told2 .given .1, c .is-wanted .ensures, c .before .before .before .is-filled .ensures)
 
 returns-3 : tie.Need-returns-3
 returns-3 c = rw (c .before .enum-told3 .given .1, c .is-unknown .ensures)
 
 returns-4 : tie.Need-returns-4
-returns-4 c = let v = c .before .before .before in rw (c .before .enum-told4 .given .1, c .is-in-range .ensures, v .value-of .ensures, v .before .is-filled .ensures)
+returns-4 c = rw (c .before .enum-told4 .given .1, c .is-outside .ensures)
 
 pub is-broken-spec : {M : Type 1} → statement M
 is-broken-spec =
     tie.close
     (tie.spec
     is-filled-requires
-    value-of-requires
     enum-told
     is-optional-requires
     enum-told-2
@@ -59,7 +55,7 @@ is-broken-spec =
     enum-told-3
     is-unknown-requires
     enum-told-4
-    is-in-range-requires
+    is-outside-requires
     returns
     returns-2
     returns-3

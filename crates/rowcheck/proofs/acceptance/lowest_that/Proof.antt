@@ -11,7 +11,8 @@ use Rattle.cells.specs.declared.row.Row.{Row}
 use Rattle.cells.proofs.LowestLaws.{lowest-end}
 use Rattle.cells.proofs.RowLaws.{length-cells}
 use Rattle.member.specs.Acceptance.{breaks, lowestThat}
-use Rattle.rowcheck.proofs.SearchLaws.{searchFrom, tested, search-step}
+use Rattle.rowcheck.specs.Search.{searchFrom}
+use Rattle.rowcheck.proofs.SearchLaws.{tested, search-step}
 use Rattle.rowcheck.proofs.acceptance.lowest_that.Statement.{statement}
 use Rattle.rowcheck.proofs.acceptance.lowest_that.Tie as tie
 

@@ -15,8 +15,9 @@ use Rattle.member.specs.Ranges.{RangesOf}
 use Rattle.member.specs.Verdict.{verdict, judged}
 use Rattle.member.specs.declared.member.Member.{Member}
 use Rattle.member.proofs.AcceptanceLaws.{Accepted, accepted-ranges, fill-refused, code-refused, range-refused, none-refused}
-use Rattle.member.specs.declared.rule.Rule.the-variants.{Code}
-use Rattle.rowcheck.proofs.SearchLaws.{codes-begun-or-not}
+use Rattle.member.specs.declared.kind.Kind.the-variants.{Tension}
+use Rattle.member.specs.declared.rule.Rule.the-variants.{Code, Range}
+use Rattle.rowcheck.proofs.SearchLaws.{codes-begun-or-not, ranges-of-any-kind}
 use Rattle.rowcheck.proofs.check.check_kind.Statement.{statement}
 use Rattle.rowcheck.proofs.check.check_kind.Tie as tie
 
@@ -49,8 +50,15 @@ returns-2 c =
     let fill = c .before .before in
     sym (ap judged (code-refused _ _ (begun-is (fill .before .before)) (sym (fill .before .lowest-that2 .ensures) ∙ fill .if1 .left) (found (c .before)) (c .if2 .taken)))
 
-lowest-that-requires-3 : tie.Need-lowest-that-requires-3
-lowest-that-requires-3 c κs = search needs
+lowest-outside-requires : tie.Need-lowest-outside-requires
+lowest-outside-requires c κs = search needs
+
+-- what the search for values out of range found, in a row of this kind
+outside : (c : tie.After-lowest-outside) → let s = c .before .before .before .before .before in
+    c .lowest-outside .result ≡ lowestThat Range (s .before .args .kind) (begun s) (cellsOf (s .before .args .row))
+outside c =
+    let s = c .before .before .before .before .before in
+    c .lowest-outside .ensures ∙ ranges-of-any-kind (s .before .args .kind) Tension (begun s) (cellsOf (s .before .args .row))
 
 returns-3 : tie.Need-returns-3
 returns-3 c =
@@ -61,7 +69,7 @@ returns-3 c =
     range-refused _ _ (begun-is (fill .before .before))
     (sym (fill .before .lowest-that2 .ensures) ∙ fill .if1 .left)
     (sym (found (code .before)) ∙ code .if2 .left)
-    (c .before .lowest-that3 .ensures)
+    (outside (c .before))
     (c .if3 .taken)
     )
     )
@@ -74,7 +82,7 @@ accepted c =
     record {
       fill = sym (fill .before .lowest-that2 .ensures) ∙ fill .if1 .left;
       code = sym (found (code .before)) ∙ code .if2 .left;
-      range = sym (c .before .lowest-that3 .ensures) ∙ c .if3 .left;
+      range = sym (outside (c .before)) ∙ c .if3 .left;
     }
 
 values-of-requires : tie.Need-values-of-requires
@@ -110,7 +118,7 @@ check-kind-spec =
     returns
     lowest-unknown-requires
     returns-2
-    lowest-that-requires-3
+    lowest-outside-requires
     returns-3
     values-of-requires
     member-of-requires

@@ -3,8 +3,8 @@
 use native.Mathlib.Omega.{arith}
 use borrow.Author.Needs.{needs}
 use Rattle.rowcheck.proofs.SearchLaws.{past}
-use Rattle.rowcheck.proofs.acceptance.range_of.Statement.{statement}
-use Rattle.rowcheck.proofs.acceptance.range_of.Tie as tie
+use Rattle.rowcheck.proofs.ranges.range_of.Statement.{statement}
+use Rattle.rowcheck.proofs.ranges.range_of.Tie as tie
 
 any-code-requires : tie.Need-any-code-requires
 any-code-requires c κs = search needs

@@ -1,8 +1,8 @@
 -- `is_in_range` meets its contract.
 -- Assumes nothing.
 use borrow.Author.Needs.{needs}
-use Rattle.rowcheck.proofs.acceptance.is_in_range.Statement.{statement}
-use Rattle.rowcheck.proofs.acceptance.is_in_range.Tie as tie
+use Rattle.rowcheck.proofs.ranges.is_in_range.Statement.{statement}
+use Rattle.rowcheck.proofs.ranges.is_in_range.Tie as tie
 
 range-of-requires : tie.Need-range-of-requires
 range-of-requires c κs = search needs
