@@ -1,29 +1,9 @@
-// The two entries of the worksheet host. Each reads the row's bytes and then does one thing with the row.
-use cells::answer::write_answer;
-use cells::host_row::read_host_row;
-use cells::refusal::Outcome;
-use cells::refusal::refusal_code;
-use member::verdict::Answer;
-use member::verdict::Verdict;
-use packed::pack::Packed;
-use packed::pack::pack_row;
-use rowcheck::check::check_row;
+// The two entries of the worksheet host: each hands on what it was lent.
+use hosting::check::check_host_row;
+use hosting::pack::pack_host_row;
 ghost use mathlib.Core.Path.{_≡_};
 ghost use lib.ListN.{length};
-ghost use Rattle.addin.specs.Entries.{verdictReturns, verdictLeaves, checkReturns, checkLeaves, packReturns, packLeaves, HostKeepsDemand3};
-
-// A verdict as the host gets it: 0 for pass and 1 for fail, the rest of it in the answer's bytes; or the refusal of the answer's length.
-fn answer_verdict(verdict: Verdict, answer: &mut [u8]) -> u64
-    ensures result { λ r. ⌜ r ≡ verdictReturns (length (now (answer .entry))) verdict ⌝ }
-    ensures buffer { λ _. ⌜ now (answer .exit) ≡ verdictLeaves verdict (now (answer .entry)) ⌝ }
-{
-    let passes = verdict.passes;
-    let written = write_answer(answer, verdict.utilisation, verdict.count, verdict.check);
-    match written {
-        Outcome::Refused(refusal) => refusal_code(refusal),
-        Outcome::Done => if passes { 0 } else { 1 },
-    }
-}
+ghost use Rattle.hosting.specs.Entries.{checkReturns, checkLeaves, packReturns, packLeaves, HostKeepsDemand3};
 
 // Checks the host's row of bytes. Returns 0 for pass, 1 for fail, or 1000 × number + cell.
 #[no_mangle]
@@ -32,18 +12,7 @@ pub extern "C" fn lvl_check_row(row: &[u8], answer: &mut [u8]) -> u64
     ensures buffer { λ _. ⌜ now (answer .exit) ≡ checkLeaves (now (row .entry)) (now (answer .entry)) ⌝ }
     ensures demand { λ r. ⌜ HostKeepsDemand3 (now (row .entry)) (now (answer .entry)) r (now (answer .exit)) 1005 ⌝ }
 {
-    let read = read_host_row(row);
-    let outcome = read.outcome;
-    match outcome {
-        Outcome::Refused(refusal) => refusal_code(refusal),
-        Outcome::Done => {
-            let checked = check_row(read.row);
-            match checked {
-                Answer::Refused(refusal) => refusal_code(refusal),
-                Answer::Judged(verdict) => answer_verdict(verdict, answer),
-            }
-        }
-    }
+    check_host_row(row, answer)
 }
 
 // Packs the host's row of bytes. Returns the byte count, or 1000 × number + cell.
@@ -52,16 +21,5 @@ pub extern "C" fn lvl_pack_row(row: &[u8], buffer: &mut [u8]) -> u64
     ensures result { λ r. ⌜ r ≡ packReturns (now (row .entry)) (length (now (buffer .entry))) ⌝ }
     ensures buffer { λ _. ⌜ now (buffer .exit) ≡ packLeaves (now (row .entry)) (now (buffer .entry)) ⌝ }
 {
-    let read = read_host_row(row);
-    let outcome = read.outcome;
-    match outcome {
-        Outcome::Refused(refusal) => refusal_code(refusal),
-        Outcome::Done => {
-            let packed = pack_row(read.row, buffer);
-            match packed {
-                Packed::Refused(refusal) => refusal_code(refusal),
-                Packed::Done(count) => count as u64,
-            }
-        }
-    }
+    pack_host_row(row, buffer)
 }

@@ -1,2 +1,2 @@
-// The worksheet host's entries: lent bytes in and out, a number back.
+// The worksheet host's entries, as C links them.
 pub mod entries;

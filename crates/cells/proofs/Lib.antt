@@ -1,10 +1,6 @@
 pub mod LowestLaws
 pub mod FillLaws
-pub mod NumberLaws
 pub mod RowLaws
-pub mod ReadingLaws
-pub mod HostRowLaws
-pub mod AnswerLaws
-pub mod ReadingMeaning
-pub mod AnswerMeaning
-pub mod ReadRows
+pub mod FloatLaws
+pub mod ResultLaws
+pub mod HostBytesMeaning

@@ -1,7 +1,4 @@
 pub mod Row
 pub mod Refusal
 pub mod Lowest
-pub mod Number
-pub mod Reading
-pub mod HostRow
-pub mod HostAnswer
+pub mod HostBytes

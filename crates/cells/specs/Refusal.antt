@@ -1,6 +1,7 @@
--- The refusals 1 to 7 by number and cell, and what an operation gives.
+-- The refusals 1 to 7 by number and cell, what an operation gives, and how operations chain.
 -- Assumes nothing.
 use Prim.Native.Nat.{ℕ, _+_, _*_}
+use mathlib.Core.List.{List}
 use Rattle.cells.specs.declared.refusal.Refusal.{Refusal}
 use Rattle.cells.specs.declared.refusal.Refusal.the-variants.{RowLength, Unreadable, Misfilled, UnknownCode, OutOfRange, BufferSize, CutOff, Padding}
 use Rattle.cells.specs.declared.refusal.Outcome.{Outcome}
@@ -55,3 +56,18 @@ valueOr nothing (refuses number cell) = nothing
 abbrev pub whereGiven : {A B : Type 0} → Result A → B → B → B
 whereGiven (gives value) given refused = given
 whereGiven (refuses number cell) given refused = refused
+
+-- an operation on what the one before gave; the first refusal stands
+abbrev pub andThen : {A B : Type 0} → Result A → (A → Result B) → Result B
+andThen (gives value) next = next value
+andThen (refuses number cell) next = refuses number cell
+
+-- the lent bytes after an operation on what the one before gave; untouched by its refusal
+abbrev pub leaves : {A : Type 0} → Result A → (A → List ℕ) → List ℕ → List ℕ
+leaves (gives value) after before = after value
+leaves (refuses number cell) after before = before
+
+-- what the host is told: the number for a value, or 1000 × number + cell
+abbrev pub told : {A : Type 0} → (A → ℕ) → Result A → ℕ
+told value-number (gives value) = value-number value
+told value-number (refuses number cell) = 1000 * number + cell

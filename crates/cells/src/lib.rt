@@ -1,7 +1,3 @@
-// What a worksheet hands over and gets back: cells and rows, floats read to whole numbers, the host's row of bytes, the refusals, the answer as bytes.
-pub mod answer;
-pub mod host_row;
-pub mod number;
-pub mod reading;
+// Cells and rows of whole numbers, and the refusals of document 01.
 pub mod refusal;
 pub mod row;

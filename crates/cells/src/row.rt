@@ -1,15 +1,9 @@
-// A cell as the host has it, a cell of whole numbers, and the row.
+// A cell of whole numbers, and the row.
 ghost use mathlib.Core.Path.{_≡_};
 ghost use Rattle.cells.specs.Row.{blankRow};
 
 // How many cells a row has.
 pub const CELLS: usize = 22;
-
-// A cell as the host has it.
-pub enum HostCell {
-    Blank,
-    Number(f64),
-}
 
 // A cell of a row.
 pub enum Cell {

@@ -23,8 +23,8 @@ use Rattle.member.specs.Cells.{filled, valueOf, within, wanted, optional
 use Rattle.member.specs.Kind.{kindOf}
 use Rattle.member.specs.Member.{valuesOf, memberOf, jointOf}
 use Rattle.member.specs.Ranges.{Sized, Braced, RangesOf}
-use Rattle.member.specs.declared.rule.Rule.{Rule}
-use Rattle.member.specs.declared.rule.Rule.the-variants.{Begin, Fill, Code, Range}
+use Rattle.member.specs.declared.acceptance.Rule.{Rule}
+use Rattle.member.specs.declared.acceptance.Rule.the-variants.{Begin, Fill, Code, Range}
 use Rattle.member.specs.declared.kind.Kind.{Kind}
 use Rattle.member.specs.declared.kind.Kind.the-variants.{Tension, Bending, Compression, CompressionBending, TensionBending}
 use Rattle.member.specs.declared.kind.KindCode.{KindCode}

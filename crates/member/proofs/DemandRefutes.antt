@@ -1,6 +1,6 @@
 -- Demand 3 has teeth: it refutes wrong verdicts and counts of the worked rows, whatever else they say; and its factor is not idle.
 -- Assumes nothing.
-use Prim.Native.Nat.{ℕ, _≤_}
+use Prim.Native.Nat.{ℕ, _-_, _≤_}
 use native.Mathlib.Omega.{arith}
 use mathlib.Core.Path.{_≡_, refl}
 use mathlib.Core.Logic.{inl, inr}
@@ -12,7 +12,7 @@ use Rattle.cells.specs.Refusal.{gives}
 use Rattle.sp64.specs.Joint.{ExactJointLength}
 use Rattle.member.specs.Acceptance.{lowestThat, acceptKind, accept}
 use Rattle.member.specs.Checks.{Check, yesNo, strength, Has, layout, slendernessH, slendernessB, jointLength, bending, compressionBending}
-use Rattle.member.specs.Demand3.{LayoutOrSlenderness, CountFor, Demand3}
+use Rattle.member.specs.Demand3.{leastFactor, LayoutOrSlenderness, CountFor, Demand3}
 use Rattle.member.specs.Member.{valuesOf, memberOf}
 use Rattle.member.specs.Unrounded.{forcesOf, Holds}
 use Rattle.member.specs.Verdict.{governing, judgeBy, verdict}
@@ -80,7 +80,7 @@ row-E-with-24 p c u d = let le : 25 ≤ 24 = d .count-above refl kept-E 25 count
 pub row-E-with-26 : (passes : Bool) (check utilisation : ℕ) → Demand3 memberE (says passes check utilisation 26) 1005 → ⊥
 row-E-with-26 p c u d = let le : 26 ≤ 25 = d .count-below refl kept-E 25 count-E-scaled in absurd (omega arith)
 
--- A row whose verdict by the rules breaks demand 3 at 1002.
+-- A row whose verdict by the rules breaks demand 3 at a thousandth less than the least factor.
 abbrev edgeMember : Member
 edgeMember = memberOf CompressionBending false (valuesOf edgeRow)
 
@@ -88,9 +88,9 @@ pub edge-accepted : accept edgeRow ≡ gives edgeMember
 unfolding acceptKind lowestThat lowest
 edge-accepted = refl
 
-pub edge-breaks-1002 : Demand3 edgeMember (verdict edgeMember) 1002 → ⊥
+pub edge-breaks-less : Demand3 edgeMember (verdict edgeMember) (leastFactor - 1) → ⊥
 unfolding judgeBy governing
-edge-breaks-1002 d =
+edge-breaks-less d =
     d .fail (strength compressionBending) (record { of-kind = inr (inr (inr (inl refl))); kept = refl }) (λ low. absurd (omega arith))
     (record { fails = refl; names = refl })
     (record { share = lit< tt; sum = lit≤ tt })

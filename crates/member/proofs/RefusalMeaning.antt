@@ -17,8 +17,8 @@ use Rattle.member.specs.declared.kind.Kind.{Kind}
 use Rattle.member.specs.declared.kind.KindCode.{KindCode}
 use Rattle.member.specs.declared.kind.KindCode.the-variants.{Known, Unknown}
 use Rattle.member.specs.declared.member.Member.{Member}
-use Rattle.member.specs.declared.rule.Rule.{Rule}
-use Rattle.member.specs.declared.rule.Rule.the-variants.{Fill, Code, Range}
+use Rattle.member.specs.declared.acceptance.Rule.{Rule}
+use Rattle.member.specs.declared.acceptance.Rule.the-variants.{Fill, Code, Range}
 use Rattle.member.proofs.AcceptanceLaws.{fill-refused, code-refused, range-refused, none-refused}
 
 module _ (kind : Kind) (cells : List Cell) where

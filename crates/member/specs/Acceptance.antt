@@ -6,14 +6,16 @@ use mathlib.Core.List.{List}
 use lib.Dec.{eqb}
 use lib.ListN.{getD}
 use Rattle.cells.specs.Lowest.{lowest}
-use Rattle.cells.specs.Refusal.{Result, gives, refuses}
+use Rattle.cells.specs.Refusal.{Result, gives, refuses, refusedBy}
 use Rattle.cells.specs.declared.row.Cell.{Cell}
 use Rattle.cells.specs.declared.row.Cell.the-variants.{Blank, Whole}
 use Rattle.member.specs.Kind.{kindOf}
 use Rattle.member.specs.Cells.{filled, valueOf, optional, wanted, knownCode, inRange}
 use Rattle.member.specs.Member.{valuesOf, memberOf}
-use Rattle.member.specs.declared.rule.Rule.{Rule}
-use Rattle.member.specs.declared.rule.Rule.the-variants.{Begin, Fill, Code, Range}
+use Rattle.member.specs.declared.acceptance.Accepted.{Accepted}
+use Rattle.member.specs.declared.acceptance.Accepted.the-variants.{Refused, Member as Accept}
+use Rattle.member.specs.declared.acceptance.Rule.{Rule}
+use Rattle.member.specs.declared.acceptance.Rule.the-variants.{Begin, Fill, Code, Range}
 use Rattle.member.specs.declared.kind.Kind.{Kind}
 use Rattle.member.specs.declared.kind.KindCode.{KindCode}
 use Rattle.member.specs.declared.kind.KindCode.the-variants.{Known, Unknown}
@@ -64,3 +66,8 @@ acceptFirst (Whole code) cells = acceptCode (kindOf code) cells
 -- "Check a row", its refusals: the member that the row describes, or why it is refused
 abbrev pub accept : List Cell → Result Member
 accept cells = acceptFirst (getD cells 0 Blank) cells
+
+-- what the code's answer says: the member, or a refusal by number and cell
+abbrev pub acceptedResult : Accepted → Result Member
+acceptedResult (Refused refusal) = refusedBy refusal
+acceptedResult (Accept m) = gives m

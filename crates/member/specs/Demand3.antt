@@ -17,6 +17,10 @@ use Rattle.member.specs.declared.verdict.Answer.{Answer}
 use Rattle.member.specs.declared.verdict.Answer.the-variants.{Judged}
 use Rattle.member.specs.declared.verdict.Verdict.{Verdict}
 
+-- the least factor of the forces, in thousandths, at which the verdict on every row keeps demand 3
+abbrev pub leastFactor : ℕ
+leastFactor = 1003
+
 -- the verdict is a fail and names check c
 pub record FailsOn (v : Verdict) (c : Check) : Type 0 where
   pub fails : v .passes ≡ false

@@ -1,10 +1,5 @@
 pub mod BitLaws
 pub mod CellLaws
-pub mod PackLaws
-pub mod WriterLaws
-pub mod BufferLaws
 pub mod ParseLaws
 pub mod RoundTrip
 pub mod Sizes
-pub mod ReaderLaws
-pub mod UnpackLaws

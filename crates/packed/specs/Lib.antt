@@ -1,4 +1,3 @@
 pub mod Bits
 pub mod Packing
 pub mod Unpacking
-pub mod Place

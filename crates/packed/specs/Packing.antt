@@ -11,8 +11,6 @@ use Rattle.cells.specs.Refusal.{Result, gives, refuses, refusedBy, whereGiven}
 use Rattle.cells.specs.declared.row.Cell.{Cell}
 use Rattle.cells.specs.declared.row.Cell.the-variants.{Blank, Whole}
 use Rattle.packed.specs.Bits.{bits, bytesOf}
-use Rattle.packed.specs.declared.measure.Measured.{Measured}
-use Rattle.packed.specs.declared.measure.Measured.the-variants.{Bits, TooWide}
 use Rattle.packed.specs.declared.pack.Packed.{Packed}
 use Rattle.packed.specs.declared.pack.Packed.the-variants.{Done, Refused}
 
@@ -42,10 +40,6 @@ tooWide (Whole value) = not (ltb value (2 ^ valueBits))
 -- the lowest cell with a value above 34 bits, 0 where there is none
 abbrev pub lowestWide : List Cell → ℕ
 lowestWide cells = lowest (λ (n : ℕ) (cell : Cell). tooWide cell) 1 cells
-
--- what measuring cells finds: their bits, or the lowest with a value above 34 bits
-abbrev pub measureOf : List Cell → Measured
-measureOf cells = cond (eqb (lowestWide cells) 0) (Bits (length (rowBits cells))) (TooWide (lowestWide cells))
 
 -- the packed cells in a buffer, and after them what was there
 abbrev pub packedInto : List Cell → List ℕ → List ℕ

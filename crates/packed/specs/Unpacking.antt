@@ -5,13 +5,10 @@ use mathlib.Core.List.{List, [], _∷_, _++_}
 use mathlib.Core.Bool.{Bool, true, false, cond, _||_}
 use lib.ListN.{length, take, drop}
 use lib.Dec.{leb}
-use Rattle.cells.specs.Row.{cellCount, valueBits, blanks, blankRow}
+use Rattle.cells.specs.Row.{cellCount, valueBits, blanks}
 use Rattle.cells.specs.Refusal.{Result, gives, refuses}
 use Rattle.cells.specs.declared.row.Cell.{Cell}
 use Rattle.cells.specs.declared.row.Cell.the-variants.{Blank, Whole}
-use Rattle.cells.specs.declared.refusal.Refusal.{Refusal}
-use Rattle.cells.specs.declared.refusal.Outcome.the-variants.{Refused}
-use Rattle.packed.specs.declared.unpack.UnpackedRow.{UnpackedRow}
 use Rattle.packed.specs.Bits.{number, bitsOf}
 
 -- a cell and then what the later cells give
@@ -53,7 +50,3 @@ filledUp cells = cells ++ blanks (cellCount - length cells)
 abbrev pub held : Result (List Cell × ℕ) → List Cell × ℕ
 held (gives (cells, count)) = (filledUp cells, count)
 held (refuses number cell) = (filledUp [], 0)
-
--- an answer that refuses
-abbrev pub refusedRow : Refusal → UnpackedRow
-refusedRow refusal = record { outcome = Refused refusal; bytes = 0; row = blankRow }

@@ -1,7 +1,2 @@
-// A row as packed bytes, and back.
-mod cursor;
-mod measure;
+// A row as packed bytes, and back: definitions in specs/, both round trips in proofs/. The code is in `codec`.
 pub mod pack;
-mod reader;
-pub mod unpack;
-mod writer;

@@ -8,11 +8,12 @@ use native.Mathlib.Omega.{arith}
 use lib.ListN.{length, length-append}
 use Rattle.cells.specs.Refusal.{gives, refuses}
 use Rattle.member.specs.declared.verdict.Verdict.{Verdict}
-use Rattle.report.specs.Line.{rowLine}
-use Rattle.report.specs.Text.{decimal, passWord, failWord, refusedWord, field, newline, lineRoom, lineOf, textOf, HasRoom}
-use Rattle.report.specs.declared.text.Line.{Line}
-use Rattle.report.proofs.DecimalLaws.{decimal-room, decimal-most}
-use Rattle.report.proofs.TextLaws.{has-room, after}
+use Rattle.lines.specs.Line.{rowLine}
+use Rattle.lines.specs.Text.{decimal, passWord, failWord, refusedWord, field, newline, lineRoom, lineOf, textOf}
+use Rattle.text.specs.Room.{HasRoom}
+use Rattle.lines.specs.declared.text.Line.{Line}
+use Rattle.text.proofs.DecimalLaws.{decimal-room, decimal-most}
+use Rattle.text.proofs.TextLaws.{has-room, after}
 
 -- a line that holds a text of at most so many bytes
 pub record Holds (most : ℕ) (text : List ℕ) (line : Line) : Type 0 where

@@ -13,10 +13,10 @@ use Rattle.cells.specs.declared.row.Cell.{Cell}
 use Rattle.member.specs.Verdict.{checkRow}
 use Rattle.packed.specs.Unpacking.{unpacked}
 use Rattle.packed.proofs.Sizes.{no-bytes}
-use Rattle.report.specs.Line.{rowLine, checkedRow, takenOf, lineFor, taken, stepAt}
-use Rattle.report.specs.Text.{lineOf}
-use Rattle.report.specs.declared.line.Step.{Step}
-use Rattle.report.specs.declared.text.Line.{Line}
+use Rattle.lines.specs.Line.{rowLine, checkedRow, takenOf, lineFor, taken, stepAt}
+use Rattle.lines.specs.Text.{lineOf}
+use Rattle.lines.specs.declared.line.Step.{Step}
+use Rattle.lines.specs.declared.text.Line.{Line}
 
 -- the line of bytes that are there
 line-for : (number : ℕ) (left : List ℕ) → 0 < length left → lineFor number left ≡ rowLine number (checkedRow (unpacked cellCount left))

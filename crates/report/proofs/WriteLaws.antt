@@ -8,13 +8,13 @@ use native.Mathlib.Omega.{arith}
 use lib.ListN.{length, take, drop, length-append, length-drop, drop-of-length-le}
 use lib.Seq.{length-take-le, paste, take-at, drop-drop, drop-append-add}
 use Rattle.io.specs.Counts.{Counts}
-use Rattle.report.specs.Line.{lineFor, taken, stepAt}
-use Rattle.report.specs.Output.{linesFrom, linesOf, joined, roomFor}
-use Rattle.report.specs.Text.{lineRoom, lineOf}
-use Rattle.report.specs.declared.line.Step.{Step}
-use Rattle.report.proofs.OutputLaws.{taken-most, taken-some, taken-three, line-short}
-use Rattle.report.proofs.OutputMeaning.{lines-step}
-use Rattle.report.proofs.TextLaws.{text-of}
+use Rattle.lines.specs.Line.{lineFor, taken, stepAt}
+use Rattle.lines.specs.Output.{linesFrom, linesOf, joined, roomFor}
+use Rattle.lines.specs.Text.{lineRoom, lineOf}
+use Rattle.lines.specs.declared.line.Step.{Step}
+use Rattle.lines.proofs.OutputLaws.{taken-most, taken-some, taken-three, line-short}
+use Rattle.lines.proofs.OutputMeaning.{lines-step}
+use Rattle.text.proofs.TextLaws.{text-of}
 
 -- the lines for the bytes from a position on, one after another
 abbrev toCome : List ℕ → ℕ → ℕ → List ℕ

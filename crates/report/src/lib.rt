@@ -1,4 +1,3 @@
 // What the program prints of packed rows.
 pub mod line;
 pub mod output;
-pub mod text;

@@ -1,33 +1,29 @@
 // The line of the packed row at a position, and where the next row starts.
-use crate::text::Line;
-use crate::text::empty;
-use crate::text::with_byte;
-use crate::text::with_number;
-use crate::text::with_number_field;
-use crate::text::with_word_field;
 use cells::refusal::Outcome;
 use cells::refusal::Refusal;
 use cells::refusal::refusal_cell;
 use cells::refusal::refusal_number;
 use cells::row::Row;
+use codec::unpack::unpack_row;
+use lines::line::Step;
+use lines::text::Line;
 use member::verdict::Answer;
 use member::verdict::Verdict;
-use packed::unpack::unpack_row;
 use rowcheck::check::check_row;
+use text::text::empty;
+use text::text::with_byte;
+use text::text::with_number;
+use text::text::with_number_field;
+use text::text::with_word_field;
 ghost use mathlib.Core.Bool.{cond};
 ghost use mathlib.Core.List.{_++_};
 ghost use mathlib.Core.Path.{_≡_};
 ghost use Rattle.cells.specs.Refusal.{gives, refusedBy};
 ghost use Rattle.cells.specs.Row.{cellsOf};
 ghost use Rattle.member.specs.Verdict.{checkRow};
-ghost use Rattle.report.specs.Line.{rowLine, stepAt};
-ghost use Rattle.report.specs.Text.{field, passWord, failWord, lineOf, textOf, HasRoom};
-
-// A row's line, and where the next row starts.
-pub struct Step {
-    pub line: Line,
-    pub next: usize,
-}
+ghost use Rattle.lines.specs.Line.{rowLine, stepAt};
+ghost use Rattle.lines.specs.Text.{field, passWord, failWord, lineOf, textOf};
+ghost use Rattle.text.specs.Room.{HasRoom};
 
 fn refused_line(number: u64, refusal: Refusal) -> Line
     ensures { λ r. ⌜ r ≡ lineOf (rowLine number (refusedBy refusal)) ⌝ }

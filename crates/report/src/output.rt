@@ -1,13 +1,13 @@
 // All lines for an input, one after another.
 use crate::line::line_at;
-use crate::text::Line;
+use lines::text::Line;
 ghost use mathlib.Core.Path.{_≡_};
 ghost use mathlib.Core.List.{_++_};
 ghost use Prim.Native.Nat.{_+_, _≤_};
 ghost use lib.ListN.{length, drop};
 ghost use lib.Seq.{paste};
 ghost use Rattle.io.specs.Counts.{Counts};
-ghost use Rattle.report.specs.Output.{linesOf, joined, roomFor};
+ghost use Rattle.lines.specs.Output.{linesOf, joined, roomFor};
 
 // Writes a line's text from a place on.
 fn put_line(line: Line, out: &mut [u8], at: usize)

@@ -2,27 +2,7 @@
 use member::verdict::Governing;
 use member::verdict::Verdict;
 ghost use mathlib.Core.Path.{_≡_};
-ghost use Rattle.rounding.specs.Utilisation.{InCapacity, InUtilisation, utilisation};
 ghost use Rattle.member.specs.Verdict.{greaterOf, byStrength, failedOn};
-
-// The check of a utilisation.
-pub fn used_at(check: u32, utilisation: u64) -> Governing
-    requires { ⌜ InUtilisation utilisation ⌝ }
-    ensures { λ r. ⌜ r ≡ record { check = check; utilisation = utilisation } ⌝ }
-{
-    Governing {
-        check,
-        utilisation: utilisation as u32,
-    }
-}
-
-// The check of a force against a capacity.
-pub fn against(check: u32, force: u64, capacity: u64) -> Governing
-    requires { ⌜ InCapacity capacity ⌝ }
-    ensures { λ r. ⌜ r ≡ record { check = check; utilisation = utilisation force capacity } ⌝ }
-{
-    used_at(check, rounding::utilisation_of(force, capacity))
-}
 
 // The greater utilisation, the first among equals.
 pub fn greater(x: Governing, y: Governing) -> Governing

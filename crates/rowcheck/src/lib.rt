@@ -1,9 +1,4 @@
-// The row check.
-mod acceptance;
+// The row check: acceptance, then judgement by the checks of the kind.
 pub mod check;
-mod checks;
 mod governing;
-mod kind;
 mod kinds;
-mod naming;
-mod ranges;

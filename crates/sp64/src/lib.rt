@@ -1,8 +1,4 @@
-// The rules of SP 64.13330 for LVL members and their dowel joints. A function's definition, rounded and unrounded, stands in specs/.
-pub mod buckling;
-pub mod capacity;
-pub mod combined;
+// The rules of SP 64.13330 for LVL members and their dowel joints: definitions in specs/, rounded and unrounded, and their laws in proofs/. The code is in `strength`, `stability` and `dowels`.
 pub mod joint;
-pub mod slenderness;
 pub mod strength;
 pub mod tables;

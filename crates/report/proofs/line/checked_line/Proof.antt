@@ -7,8 +7,8 @@ use Rattle.cells.specs.Row.{cellsOf}
 use Rattle.member.specs.Verdict.{checkRow, answerResult}
 use Rattle.member.specs.declared.verdict.Answer.{Answer}
 use Rattle.member.specs.declared.verdict.Verdict.{Verdict}
-use Rattle.report.specs.Line.{rowLine}
-use Rattle.report.specs.Text.{lineOf}
+use Rattle.lines.specs.Line.{rowLine}
+use Rattle.lines.specs.Text.{lineOf}
 use Rattle.report.proofs.line.checked_line.Statement.{statement}
 use Rattle.report.proofs.line.checked_line.Tie as tie
 

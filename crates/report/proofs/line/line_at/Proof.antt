@@ -11,7 +11,7 @@ use Rattle.cells.specs.Row.{cellCount, cellsOf}
 use Rattle.cells.specs.declared.refusal.Outcome.{Outcome}
 use Rattle.packed.specs.Unpacking.{unpacked}
 use Rattle.packed.proofs.Sizes.{unpack-moves}
-use Rattle.report.specs.declared.text.Line.{Line}
+use Rattle.lines.specs.declared.text.Line.{Line}
 use Rattle.report.proofs.StepLaws.{step-past, rest-of, step-refused, step-checked}
 use Rattle.report.proofs.line.line_at.Statement.{statement}
 use Rattle.report.proofs.line.line_at.Tie as tie

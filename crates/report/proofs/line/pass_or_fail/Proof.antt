@@ -4,8 +4,8 @@ use mathlib.Core.Bool.{Bool, cond}
 use mathlib.Core.List.{_++_}
 use mathlib.Core.Path.{sym, ap, _∙_}
 use borrow.Author.Needs.{needs}
-use Rattle.report.specs.Text.{field, passWord, failWord, lineOf, textOf}
-use Rattle.report.specs.declared.text.Line.{Line}
+use Rattle.lines.specs.Text.{field, passWord, failWord, lineOf, textOf}
+use Rattle.lines.specs.declared.text.Line.{Line}
 use Rattle.report.proofs.line.pass_or_fail.Statement.{statement}
 use Rattle.report.proofs.line.pass_or_fail.Tie as tie
 

@@ -7,8 +7,8 @@ use native.Mathlib.Omega.{arith}
 use borrow.Author.Needs.{needs}
 use lib.Dec.{lit≤}
 use Rattle.cells.specs.Refusal.{refuses}
-use Rattle.report.specs.Line.{rowLine}
-use Rattle.report.specs.Text.{decimal, refusedWord, field, newline, lineOf}
+use Rattle.lines.specs.Line.{rowLine}
+use Rattle.lines.specs.Text.{decimal, refusedWord, field, newline, lineOf}
 use Rattle.report.proofs.LineLaws.{Holds, room-left, holds-more, holds-none, number-short, field-short, refused-row}
 use Rattle.report.proofs.line.refused_line.Statement.{statement}
 use Rattle.report.proofs.line.refused_line.Tie as tie

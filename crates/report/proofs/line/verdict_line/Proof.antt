@@ -7,7 +7,7 @@ use Prim.Native.Nat.{ℕ}
 use native.Mathlib.Omega.{arith}
 use borrow.Author.Needs.{needs}
 use lib.Dec.{lit≤}
-use Rattle.report.specs.Text.{decimal, passWord, failWord, field, newline, lineOf}
+use Rattle.lines.specs.Text.{decimal, passWord, failWord, field, newline, lineOf}
 use Rattle.report.proofs.LineLaws.{Holds, room-left, holds-more, holds-none, number-short, word-short, field-short, judged-row}
 use Rattle.report.proofs.line.verdict_line.Statement.{statement}
 use Rattle.report.proofs.line.verdict_line.Tie as tie

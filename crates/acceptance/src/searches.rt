@@ -1,0 +1,92 @@
+// The lowest cell that breaks a rule, by searches through a row.
+use cellrules::rules::is_broken;
+use cellrules::rules::is_outside;
+use cellrules::rules::is_unknown;
+use cells::row::CELLS;
+use cells::row::Row;
+use member::acceptance::Rule;
+use member::kind::Kind;
+ghost use mathlib.Core.Bool.{false, cond};
+ghost use mathlib.Core.Path.{_≡_};
+ghost use Prim.Native.Nat.{_≤_};
+ghost use lib.Dec.{eqb};
+ghost use Rattle.cells.specs.Row.{cellCount, cellsOf};
+ghost use Rattle.member.specs.Acceptance.{lowestThat};
+ghost use Rattle.member.specs.declared.kind.Kind.the-variants.{Tension};
+ghost use Rattle.member.specs.declared.acceptance.Rule.the-variants.{Code, Range};
+ghost use Rattle.acceptance.specs.Search.{searchFrom};
+
+// The lowest cell that breaks a rule, 0 where none does. Codes and ranges have quicker searches below.
+pub fn lowest_that(rule: Rule, kind: Kind, begun: bool, row: Row) -> u32
+    ensures { λ r. ⌜ r ≡ lowestThat rule kind begun (cellsOf row) ⌝ }
+{
+    let cells = row.cells;
+    let mut i: usize = 0;
+    while i < CELLS {
+        let slot = cells[i];
+        let cell = slot.cell;
+        let n = (i + 1) as u32;
+        if is_broken(rule, kind, begun, n, cell) {
+            return n;
+        }
+        i = i + 1;
+    }
+    0
+}
+
+// The lowest cell with an unknown code, 0 where there is none. Only cells 2, 3 and 13 have codes.
+pub fn lowest_unknown(kind: Kind, row: Row) -> u32
+    ensures { λ r. ⌜ r ≡ lowestThat Code kind false (cellsOf row) ⌝ }
+{
+    let cells = row.cells;
+    let second = cells[1];
+    let grade = second.cell;
+    if is_unknown(kind, 2, grade) {
+        return 2;
+    }
+    let third = cells[2];
+    let regime = third.cell;
+    if is_unknown(kind, 3, regime) {
+        return 3;
+    }
+    let thirteenth = cells[12];
+    let table16 = thirteenth.cell;
+    if is_unknown(kind, 13, table16) {
+        return 13;
+    }
+    0
+}
+
+// The lowest cell with a value outside its range, of those from one place up to another; 0 where there is none.
+fn lowest_outside_in(row: Row, from: usize, to: usize) -> u32
+    requires { ⌜ (from ≤ to) × (to ≤ cellCount) ⌝ }
+    ensures { λ r. ⌜ searchFrom Range Tension false (cellsOf row) from ≡ cond (eqb r 0) (searchFrom Range Tension false (cellsOf row) to) r ⌝ }
+{
+    let cells = row.cells;
+    let mut i: usize = from;
+    while i < to {
+        let slot = cells[i];
+        let cell = slot.cell;
+        let n = (i + 1) as u32;
+        if is_outside(n, cell) {
+            return n;
+        }
+        i = i + 1;
+    }
+    0
+}
+
+// The lowest cell with a value outside its range, 0 where there is none. Parts of at most ten cells, which the compiler writes out with the ranges in them.
+pub fn lowest_outside(row: Row) -> u32
+    ensures { λ r. ⌜ r ≡ lowestThat Range Tension false (cellsOf row) ⌝ }
+{
+    let first = lowest_outside_in(row, 0, 7);
+    if first != 0 {
+        return first;
+    }
+    let second = lowest_outside_in(row, 7, 13);
+    if second != 0 {
+        return second;
+    }
+    lowest_outside_in(row, 13, CELLS)
+}

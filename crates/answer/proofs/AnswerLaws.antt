@@ -1,0 +1,64 @@
+-- A number's bytes stored one after another, and lent bytes that floats fill part by part.
+-- Assumes nothing.
+use mathlib.Core.Path.{_≡_, refl, sym, ap, ap₂, _∙_}
+use mathlib.Core.Bool.{not}
+use mathlib.Core.List.{List, [], _∷_, _++_, append-nil, append-assoc}
+use Prim.Native.Nat.{ℕ, zero, suc, _+_, _*_, _/_, _%_, _<_}
+use native.Mathlib.Numerals.{add-one}
+use native.Mathlib.Omega.{arith}
+use lib.Dec.{T}
+use lib.ListN.{length, getD, take, set, length-append, length-take}
+use lib.Seq.{take-at, take-suc-set, append-snoc}
+use lib.Ieee.{Float, nan, binary64, toBits, isNan}
+use borrow.Rule.Slice.PartMut.{putMid, postOf}
+use Rattle.cells.specs.HostBytes.{wordBytes, floatBytes, wholeFloat}
+use Rattle.answer.specs.HostAnswer.{floatsBytes, NoNans, hostAnswer, answerBytes}
+
+pub word-bytes-length : (n w : ℕ) → length (wordBytes n w) ≡ n
+unfolding wordBytes
+word-bytes-length zero w = refl
+word-bytes-length (suc n) w = ap suc (word-bytes-length n _)
+
+-- one byte more of a number is stored, and the others are left
+pub word-step : (l : List ℕ) (i m w : ℕ) → i < length l → take (i + 1) (set l i (w % 256)) ++ wordBytes m (w / 256) ≡ take i l ++ wordBytes (suc m) w
+unfolding wordBytes
+word-step l i m w h =
+    rw (add-one i, take-suc-set l i (w % 256) h) (append-snoc (take i l) (w % 256) (wordBytes m (w / 256)))
+
+-- ---- floats, part by part
+
+-- one float more
+floats-next : (xs : List Float) (i : ℕ) → i < length xs → floatsBytes (take (suc i) xs) ≡ floatsBytes (take i xs) ++ floatBytes (getD xs i nan)
+unfolding floatsBytes
+floats-next [] i h = absurd (omega arith)
+floats-next (x ∷ xs) zero h = append-nil (floatBytes x)
+floats-next (x ∷ xs) (suc i) h =
+    ap (λ (bytes : List ℕ). floatBytes x ++ bytes) (floats-next xs i (omega arith)) ∙ sym (append-assoc (floatBytes x) (floatsBytes (take i xs)) (floatBytes (getD xs i nan)))
+
+-- one float more is put where the ones before it end
+pub floats-step : (l ys : List ℕ) (xs : List Float) (i k : ℕ) → i < length xs → length l ≡ 8 * length xs → take (8 * i) l ≡ floatsBytes (take i xs)
+    → ys ≡ floatBytes (getD xs i nan)
+    → take (8 * (i + 1)) (putMid (8 * i) k l ys) ≡ floatsBytes (take (i + 1) xs)
+floats-step l ys xs i k h whole before e =
+    let eight : length ys ≡ 8 = ap length e ∙ word-bytes-length 8 (toBits binary64 (getD xs i nan)) in
+    ap (take (8 * (i + 1))) (sym (append-assoc (take (8 * i) l) ys (postOf (8 * i) k l)))
+    ∙ take-at (take (8 * i) l ++ ys) (postOf (8 * i) k l) (8 * (i + 1)) (omega (arith, length-append (take (8 * i) l) ys, length-take (8 * i) l))
+    ∙ ap₂ (λ (p q : List ℕ). p ++ q) before e
+    ∙ rw add-one (sym (floats-next xs i h))
+
+-- ---- the answer's three
+
+in-a-row : (x y z : Float) → floatsBytes (x ∷ y ∷ z ∷ []) ≡ floatBytes x ++ floatBytes y ++ floatBytes z
+unfolding floatsBytes
+in-a-row x y z =
+    ap (λ (bytes : List ℕ). floatBytes x ++ (floatBytes y ++ bytes)) (append-nil (floatBytes z)) ∙ sym (append-assoc (floatBytes x) (floatBytes y) (floatBytes z))
+
+pub three-floats : (x y z : Float) (utilisation count check : ℕ) → x ≡ wholeFloat utilisation → y ≡ wholeFloat count → z ≡ wholeFloat check
+    → floatsBytes (x ∷ y ∷ z ∷ []) ≡ answerBytes (hostAnswer utilisation count check)
+three-floats x y z utilisation count check p q r = rw (p, q, r) (in-a-row (wholeFloat utilisation) (wholeFloat count) (wholeFloat check))
+
+pub three-numbers : (x y z : Float) → T (not (isNan x)) → T (not (isNan y)) → T (not (isNan z)) → NoNans (x ∷ y ∷ z ∷ [])
+three-numbers x y z p q r zero h = p
+three-numbers x y z p q r (suc zero) h = q
+three-numbers x y z p q r (suc (suc zero)) h = r
+three-numbers x y z p q r (suc (suc (suc i))) h = absurd (omega arith)

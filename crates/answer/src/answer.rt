@@ -1,0 +1,29 @@
+// The answer of a check as the host gets it: three floats in 24 lent bytes.
+use crate::floats::float_of;
+use crate::floats::write_floats;
+use cells::refusal::Outcome;
+ghost use mathlib.Core.Path.{_≡_};
+ghost use lib.ListN.{length};
+ghost use Rattle.cells.specs.Refusal.{resultOf};
+ghost use Rattle.answer.specs.HostAnswer.{answerResult, answerBuffer};
+
+// Utilisation, count and check number, in this order.
+pub struct HostAnswer {
+    pub utilisation: f64,
+    pub count: f64,
+    pub check: f64,
+}
+
+// Fills 24 lent bytes with an answer; refuses another length and writes nothing.
+pub fn write_answer(out: &mut [u8], utilisation: u32, count: u32, check: u32) -> Outcome
+    ensures result { λ r. ⌜ resultOf r tt ≡ answerResult (length (now (out .entry))) ⌝ }
+    ensures buffer { λ _. ⌜ now (out .exit) ≡ answerBuffer utilisation count check (now (out .entry)) ⌝ }
+{
+    let answer = HostAnswer {
+        utilisation: float_of(utilisation as u64),
+        count: float_of(count as u64),
+        check: float_of(check as u64),
+    };
+    let floats = [answer.utilisation, answer.count, answer.check];
+    write_floats(out, &floats)
+}

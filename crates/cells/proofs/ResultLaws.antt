@@ -1,0 +1,27 @@
+-- The result that an outcome stands for, by its cases; and what a refusal does to what comes after it.
+-- Assumes nothing.
+use Prim.Native.Nat.{ℕ}
+use mathlib.Core.List.{List}
+use mathlib.Core.Path.{_≡_, refl, ap}
+use Rattle.cells.specs.Refusal.{Result, gives, refusedBy, refusalCode, resultOf, andThen, leaves, told}
+use Rattle.cells.specs.declared.refusal.Outcome.{Outcome}
+use Rattle.cells.specs.declared.refusal.Outcome.the-variants.{Done, Refused}
+use Rattle.cells.specs.declared.refusal.Refusal.{Refusal}
+
+-- the result beside an outcome that refuses
+pub refused-result : {A : Type 0} (outcome : Outcome) (value : A) {refusal : Refusal} → outcome ≡ Refused refusal → resultOf outcome value ≡ refusedBy refusal
+refused-result outcome value e = ap (λ (o : Outcome). resultOf o value) e
+
+-- the result beside an outcome that does not
+pub done-result : {A : Type 0} (outcome : Outcome) (value : A) → outcome ≡ Done → resultOf outcome value ≡ gives value
+done-result outcome value e = ap (λ (o : Outcome). resultOf o value) e
+
+-- the first refusal stands: what comes after it is not looked at, the lent bytes stay as they were, and the host is told its code
+pub refusal-stands : {A B : Type 0} (refusal : Refusal) (next : A → Result B) → andThen (refusedBy refusal) next ≡ refusedBy refusal
+refusal-stands refusal next = refl
+
+pub refusal-leaves : {A : Type 0} (refusal : Refusal) (after : A → List ℕ) (before : List ℕ) → leaves (refusedBy refusal) after before ≡ before
+refusal-leaves refusal after before = refl
+
+pub refusal-told : {A : Type 0} (refusal : Refusal) (value-number : A → ℕ) → told value-number (refusedBy refusal) ≡ refusalCode refusal
+refusal-told refusal value-number = refl

@@ -1,0 +1,3 @@
+// Slenderness and the strength checks of a member.
+pub mod checks;
+pub mod utilisation;

@@ -1,0 +1,5 @@
+pub mod PackLaws
+pub mod WriterLaws
+pub mod BufferLaws
+pub mod ReaderLaws
+pub mod UnpackLaws

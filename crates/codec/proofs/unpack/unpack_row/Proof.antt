@@ -1,0 +1,28 @@
+-- `unpack_row` meets its contract: the first 22 cells of a row are all its cells.
+-- Assumes nothing.
+use mathlib.Core.Path.{ap, _∙_}
+use Prim.Native.Nat.{ℕ}
+use native.Mathlib.Omega.{arith}
+use borrow.Author.Needs.{needs}
+use mathlib.Core.List.{List}
+use lib.ListN.{length}
+use lib.Seq.{take-all}
+use Rattle.cells.specs.Row.{cellCount, cellsOf}
+use Rattle.cells.specs.declared.row.Cell.{Cell}
+use Rattle.codec.proofs.UnpackLaws.{held-row}
+use Rattle.codec.proofs.unpack.unpack_row.Statement.{statement}
+use Rattle.codec.proofs.unpack.unpack_row.Tie as tie
+
+unpack-cells-requires : tie.Need-unpack-cells-requires
+unpack-cells-requires c κs = search needs
+
+returns : tie.Need-returns
+returns c =
+    let row = c .unpack-cells .result .row in
+    let e = c .unpack-cells .ensures in
+    let h = held-row (c .before .before .args .bytes .now) in
+    let whole = ap (λ (p : List Cell × ℕ). length (p .0)) (e .1) ∙ h .1 in
+    (rw (take-all cellCount (cellsOf row) (omega arith)) at (e .0), e .1 ∙ h .0)
+
+pub unpack-row-spec : {M : Type 1} → statement M
+unpack-row-spec = tie.close (tie.spec unpack-cells-requires returns)

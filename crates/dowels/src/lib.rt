@@ -1,0 +1,2 @@
+// The dowel joint: layout, dowel count, joint length.
+pub mod joint;

@@ -1,0 +1,26 @@
+-- The lines for bytes, row after row: none for none; otherwise the line of the first row, and the lines for the bytes after it, numbered on.
+-- Assumes nothing.
+use Prim.Native.Nat.{ℕ, suc, _<_}
+use mathlib.Core.Path.{_≡_, refl, ap}
+use mathlib.Core.List.{List, [], _∷_}
+use native.Mathlib.Omega.{arith}
+use lib.ListN.{length, drop, length-drop}
+use Rattle.lines.specs.Line.{lineFor, taken}
+use Rattle.lines.specs.Output.{linesFrom, linesOf}
+use Rattle.lines.proofs.OutputLaws.{taken-some, lines-enough}
+
+-- no bytes, no lines
+pub lines-none : linesOf [] ≡ []
+unfolding linesFrom
+lines-none = refl
+
+-- the first row's line, and then the lines for the rest
+pub lines-step : (number : ℕ) (left : List ℕ) → 0 < length left → let rest = drop (taken left) left in
+    linesFrom (length left) number left ≡ lineFor number left ∷ linesFrom (length rest) (suc number) rest
+unfolding linesFrom
+lines-step number [] some = absurd (omega arith)
+lines-step number (byte ∷ bytes) some =
+    let left : List ℕ = byte ∷ bytes in
+    let fewer = length-drop (taken left) left in
+    let moves = taken-some left some in
+    ap (λ (lines : List (List ℕ)). lineFor number left ∷ lines) (lines-enough (length bytes) (suc number) (drop (taken left) left) (omega arith))

@@ -1,0 +1,173 @@
+-- `read_host_row` meets its contract: up to the cell that the loop has come to, every cell of the host is readable and stored as read.
+-- Assumes nothing.
+use borrow.Author.Needs.{needs}
+use mathlib.Core.Path.{_≡_, refl, sym, ap, _∙_}
+use mathlib.Core.List.{List}
+use Prim.Native.Nat.{ℕ, _+_, _-_, _*_, _≤_, _<_}
+use native.Mathlib.Nat.{zero-add}
+use native.Mathlib.Omega.{arith}
+use lib.ListN.{length, getD, take, drop, length-set}
+use borrow.Author.Tests.{eq-eqb}
+use Rattle.reading.specs.HostRow.{hostCellBytes, hostCellAt, hostCellsAt, readHostRow}
+use Rattle.cells.specs.Lowest.{lowest}
+use Rattle.reading.specs.Reading.{readCell, readCells, lowestUnreadable}
+use Rattle.cells.specs.Row.{cellCount}
+use Rattle.reading.specs.declared.number.Reading.{Reading}
+use Rattle.cells.specs.declared.row.Cell.the-variants.{Blank}
+use Rattle.reading.specs.declared.host_cells.HostCell.{HostCell}
+use Rattle.reading.specs.declared.host_cells.HostCell.the-variants.{Blank as Empty}
+use Rattle.cells.specs.declared.row.Row.{Row}
+use Rattle.cells.proofs.FillLaws.{fill-step, fill-end}
+use Rattle.reading.proofs.HostRowLaws.{host-cells-length, host-cells-at}
+use Rattle.cells.proofs.LowestLaws.{lowest-end}
+use Rattle.reading.proofs.ReadingLaws.{says-refused, says-row, asRead, read-given, read-refused, unreadable, wanted, search-on, wanted-length, wanted-at}
+use Rattle.reading.proofs.ReadingMeaning.{another-length}
+use Rattle.reading.proofs.host_row.read_host_row.Statement.{statement}
+use Rattle.reading.proofs.host_row.read_host_row.Tie as tie
+
+-- the host's cells in these bytes
+abbrev hostCells : List ℕ → List HostCell
+hostCells bytes = hostCellsAt cellCount bytes 0
+
+-- bytes of the right length are read as these cells
+read-whole : (bytes : List ℕ) → length bytes ≡ hostCellBytes * cellCount → readHostRow bytes ≡ readCells (hostCells bytes)
+read-whole bytes whole = rw (eq-eqb _ _ whole)
+
+-- the cell that starts i cells on reads as cell i does
+reads-there : (bytes : List ℕ) (i : ℕ) (cell : HostCell) (r : Reading) → i < cellCount → cell ≡ hostCellAt bytes (hostCellBytes * i)
+    → r ≡ readCell cell → r ≡ readCell (getD (hostCells bytes) i Empty)
+reads-there bytes i cell r h e told =
+    told ∙ ap readCell (e ∙ sym (host-cells-at cellCount bytes 0 i Empty h ∙ ap (hostCellAt bytes) (zero-add (hostCellBytes * i))))
+
+abbrev Inv-loop : tie.InvT-loop
+Inv-loop bytes row₀ i₀ row i =
+    (i ≤ cellCount)
+    × (length (row .cells) ≡ cellCount)
+    × (take i (row .cells) ≡ take i (wanted (hostCells bytes)))
+    × (lowestUnreadable (hostCells bytes) ≡ lowest unreadable (i + 1) (drop i (hostCells bytes)))
+
+abbrev μ-loop : tie.MeasureT-loop
+μ-loop bytes row₀ i₀ row i = cellCount - i
+
+mul-if1 : tie.Need-mul-if1 Inv-loop μ-loop
+mul-if1 c = search needs
+
+refused-requires : tie.Need-refused-requires Inv-loop μ-loop
+refused-requires c κs = search needs
+
+returns : tie.Need-returns Inv-loop μ-loop
+returns c = says-refused _ _ _ (c .refused .ensures) (another-length (c .before .before .before .args .bytes .now) (λ e. omega (arith, c .before .if1 .taken)))
+
+blank-row-requires : tie.Need-blank-row-requires Inv-loop μ-loop
+blank-row-requires c κs = search needs
+
+loop-holds : tie.Need-loop-holds Inv-loop μ-loop
+loop-holds c = (omega arith, ap (λ (row : Row). length (row .cells)) (c .blank-row .ensures), refl, refl)
+
+mul-host-cell-at : tie.Need-mul-host-cell-at Inv-loop μ-loop
+mul-host-cell-at c = search needs
+
+host-cell-at-requires : tie.Need-host-cell-at-requires Inv-loop μ-loop
+host-cell-at-requires c κs = search needs
+
+read-cell-requires : tie.Need-read-cell-requires Inv-loop μ-loop
+read-cell-requires c κs = search needs
+
+enum-told : tie.Need-enum-told Inv-loop μ-loop
+enum-told c = search needs
+
+add-t14 : tie.Need-add-t14 Inv-loop μ-loop
+add-t14 c = search needs
+
+cast-t15 : tie.Need-cast-t15 Inv-loop μ-loop
+cast-t15 c = search needs
+
+refused-requires-2 : tie.Need-refused-requires-2 Inv-loop μ-loop
+refused-requires-2 c κs = search needs
+
+returns-2 : tie.Need-returns-2 Inv-loop μ-loop
+returns-2 c =
+    let r = c .before .before .before in
+    let l = r .before .before .before in
+    let tested = l .before .before in
+    let bytes = tested .before .before .args .bytes .now in
+    let i = l .loop .i in
+    let told =
+    reads-there bytes i _ _ (r .before .before .loop-test .taken) (r .before .host-cell-at .ensures) (sym (c .before .enum-told .given .1) ∙ r .read-cell .ensures) in
+    says-refused _ _ _ (c .refused2 .ensures)
+    (read-whole bytes (tested .if1 .left)
+    ∙ read-refused (hostCells bytes) i (l .loop .inv .3 ∙ search-on (hostCells bytes) i _ (omega (arith, host-cells-length cellCount bytes 0)) told))
+
+enum-known-reading : tie.Need-enum-known-reading Inv-loop μ-loop
+enum-known-reading c = search needs
+
+mul-t18 : tie.Need-mul-t18 Inv-loop μ-loop
+mul-t18 c = search needs
+
+element-set-from-row : tie.Need-element-set-from-row Inv-loop μ-loop
+element-set-from-row c = search needs
+
+add-i : tie.Need-add-i Inv-loop μ-loop
+add-i c = search needs
+
+loop-less : tie.Need-loop-less Inv-loop μ-loop
+loop-less c = search needs
+
+loop-again : tie.Need-loop-again Inv-loop μ-loop
+loop-again c =
+    let r = c .before .before .before in
+    let l = r .before .before .before in
+    let bytes = l .before .before .before .before .args .bytes .now in
+    let cells = hostCells bytes in
+    let slots = l .loop .row .cells in
+    let i = l .loop .i in
+    let inside : i < length cells = omega (arith, host-cells-length cellCount bytes 0) in
+    let told =
+    reads-there bytes i _ _ (r .before .before .loop-test .taken) (r .before .host-cell-at .ensures) (sym (c .before .reading .given .1) ∙ r .read-cell .ensures) in (
+      omega arith,
+      length-set slots i _ ∙ l .loop .inv .1,
+      fill-step slots (wanted cells) i _ (record { cell = Blank }) (omega arith) (omega (arith, wanted-length cells)) (l .loop .inv .2)
+          (wanted-at cells i _ told),
+      l .loop .inv .3 ∙ search-on cells i _ inside told,
+    )
+
+returns-3 : tie.Need-returns-3 Inv-loop μ-loop
+returns-3 c =
+    let l = c .before in
+    let tested = l .before .before in
+    let bytes = tested .before .before .args .bytes .now in
+    let cells = hostCells bytes in
+    let n : length cells ≡ cellCount = host-cells-length cellCount bytes 0 in
+    let same : l .loop .row .cells ≡ wanted cells =
+    fill-end (l .loop .row .cells) (wanted cells) (l .loop .i) (omega arith) (omega (arith, wanted-length cells)) (l .loop .inv .2) in
+    rw same
+    (says-row (asRead cells) _
+    (read-whole bytes (tested .if1 .left)
+    ∙ read-given cells (l .loop .inv .3 ∙ lowest-end unreadable cells (l .loop .i) (l .loop .i + 1) (omega arith))))
+
+pub read-host-row-spec : {M : Type 1} → statement M
+read-host-row-spec =
+    tie.close
+    (tie.spec
+    Inv-loop
+    μ-loop
+    mul-if1
+    refused-requires
+    returns
+    blank-row-requires
+    loop-holds
+    mul-host-cell-at
+    host-cell-at-requires
+    read-cell-requires
+    enum-told
+    add-t14
+    cast-t15
+    refused-requires-2
+    returns-2
+    enum-known-reading
+    mul-t18
+    element-set-from-row
+    add-i
+    loop-less
+    loop-again
+    returns-3)

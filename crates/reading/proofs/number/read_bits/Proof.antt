@@ -1,0 +1,76 @@
+-- `read_bits` meets its contract: each way out is a case of the pattern's fields.
+-- Assumes nothing.
+use borrow.Author.Needs.{needs}
+use Prim.Native.Nat.{_+_, _-_, _/_, _%_, _^_, _≤_}
+use mathlib.Core.Path.{sym, _∙_}
+use mathlib.Core.Bool.{false}
+use native.Mathlib.Omega.{arith}
+use Rattle.reading.proofs.NumberLaws.{zero-bits, negative-bits, small-bits, large-bits, middle-bits, not-whole, is-whole, back-whole, back-part, quotient-lt}
+use Rattle.reading.proofs.number.read_bits.Statement.{statement}
+use Rattle.reading.proofs.number.read_bits.Tie as tie
+
+whole-requires : tie.Need-whole-requires
+whole-requires c κs = search needs
+
+returns : tie.Need-returns
+returns c = c .whole .ensures ∙ sym (zero-bits (c .before .before .args .bits) (c .before .if1 .taken))
+
+returns-2 : tie.Need-returns-2
+returns-2 c = sym (negative-bits (c .before .before .args .bits) (c .before .before .fits .bits .fits) (c .before .if1 .left) (omega (arith, c .if2 .taken)))
+
+returns-3 : tie.Need-returns-3
+returns-3 c = sym (small-bits (c .before .before .before .args .bits) (c .before .before .if1 .left) (c .before .if2 .left) (c .if3 .taken))
+
+returns-4 : tie.Need-returns-4
+returns-4 c = sym (large-bits (c .before .before .before .before .args .bits) (c .before .before .if2 .left) (omega (arith, c .if4 .taken)))
+
+add-digits : tie.Need-add-digits
+add-digits c = search needs
+
+sub-places : tie.Need-sub-places
+sub-places c = search needs
+
+shr-number : tie.Need-shr-number
+shr-number c = search needs
+
+shl-if5 : tie.Need-shl-if5
+shl-if5 c = search needs
+
+returns-5 : tie.Need-returns-5
+returns-5 c =
+    let b = c .before .before .before .before .before .args .bits in
+    let d = 2 ^ 52 + b % 2 ^ 52 in
+    let k = 1075 - b / 2 ^ 52 in
+    sym (middle-bits b (c .before .before .before .if2 .left) (c .before .before .if3 .left) (c .before .if4 .left)
+    ∙ not-whole false d (2 ^ k) (back-part d k (omega arith) (c .if5 .taken)))
+
+whole-requires-2 : tie.Need-whole-requires-2
+whole-requires-2 c κs = search needs
+
+returns-6 : tie.Need-returns-6
+returns-6 c =
+    let e = c .before in
+    let b = e .before .before .before .before .before .args .bits in
+    let d = 2 ^ 52 + b % 2 ^ 52 in
+    let k = 1075 - b / 2 ^ 52 in
+    let low : 19 ≤ k = omega arith in
+    c .whole2 .ensures
+    ∙ sym (middle-bits b (e .before .before .before .if2 .left) (e .before .before .if3 .left) (e .before .if4 .left)
+    ∙ is-whole d (2 ^ k) (back-whole d k (omega arith) (e .if5 .left)) (quotient-lt d k (omega arith) low))
+
+pub read-bits-spec : {M : Type 1} → statement M
+read-bits-spec =
+    tie.close
+    (tie.spec
+    whole-requires
+    returns
+    returns-2
+    returns-3
+    returns-4
+    add-digits
+    sub-places
+    shr-number
+    shl-if5
+    returns-5
+    whole-requires-2
+    returns-6)

@@ -1,0 +1,20 @@
+-- `area_capacity` meets its contract.
+-- Assumes nothing.
+use lib.Dec.{lit<}
+use native.Mathlib.Omega.{arith}
+use Rattle.rounding.proofs.Ranges.{in-lit, in-mul, in-div}
+use borrow.Author.Needs.{needs}
+use Rattle.section.proofs.capacity.area_capacity.Statement.{statement}
+use Rattle.section.proofs.capacity.area_capacity.Tie as tie
+
+mul-result : tie.Need-mul-result
+mul-result c = omega (arith, in-mul (c .pre .0) (c .pre .1))
+
+mul-result-2 : tie.Need-mul-result-2
+mul-result-2 c = omega (arith, in-mul (in-mul (c .pre .0) (c .pre .1)) (c .pre .2))
+
+returns : tie.Need-returns
+returns c = record { exact = search needs; range = in-div (lit< tt) (in-mul (in-mul (c .pre .0) (c .pre .1)) (c .pre .2)) (in-lit 1000) }
+
+pub area-capacity-spec : {M : Type 1} → statement M
+area-capacity-spec = tie.close (tie.spec mul-result mul-result-2 returns)

@@ -1,0 +1,2 @@
+// The capacities of a cross-section.
+pub mod capacity;

@@ -1,0 +1,26 @@
+-- `slender_phi` meets its contract.
+-- Assumes nothing.
+use lib.Dec.{lit<}
+use native.Mathlib.Omega.{arith}
+use Rattle.rounding.proofs.Ranges.{in-lit, in-mul, in-div}
+use borrow.Author.Needs.{needs}
+use Rattle.stability.proofs.buckling.slender_phi.Statement.{statement}
+use Rattle.stability.proofs.buckling.slender_phi.Tie as tie
+
+mul-result : tie.Need-mul-result
+mul-result c = omega (arith, in-mul (c .pre .1) (c .pre .1))
+
+mul-result-2 : tie.Need-mul-result-2
+mul-result-2 c = omega (arith, in-mul (c .pre .1) (c .pre .1))
+
+mul-result-3 : tie.Need-mul-result-3
+mul-result-3 c = omega (arith, in-mul (c .pre .0) (c .pre .0))
+
+div-result : tie.Need-div-result
+div-result c = omega (arith, in-mul (c .pre .0) (c .pre .0))
+
+returns : tie.Need-returns
+returns c = record { exact = search needs; range = in-div (lit< tt) (in-mul (in-lit 250000000) (in-mul (c .pre .1) (c .pre .1))) (in-mul (c .pre .0) (c .pre .0)) }
+
+pub slender-phi-spec : {M : Type 1} → statement M
+slender-phi-spec = tie.close (tie.spec mul-result mul-result-2 mul-result-3 div-result returns)

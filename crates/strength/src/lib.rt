@@ -1,0 +1,3 @@
+// The tables, and the design strengths that follow from them.
+pub mod design;
+pub mod tables;

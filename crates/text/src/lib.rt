@@ -1,0 +1,2 @@
+// A line of text, put together by value.
+pub mod text;
