@@ -3,7 +3,7 @@ use hosting::check::check_host_row;
 use hosting::pack::pack_host_row;
 ghost use mathlib.Core.Path.{_≡_};
 ghost use lib.ListN.{length};
-ghost use Rattle.hosting.specs.Entries.{checkReturns, checkLeaves, packReturns, packLeaves, HostKeepsDemand3};
+ghost use Rattle.worksheet.specs.Entries.{checkReturns, checkLeaves, packReturns, packLeaves, HostKeepsDemand3};
 
 // Checks the host's row of bytes. Returns 0 for pass, 1 for fail, or 1000 × number + cell.
 #[no_mangle]

@@ -12,7 +12,7 @@ use lib.Seq.{take-at, take-suc-set, append-snoc}
 use lib.Ieee.{Float, nan, binary64, toBits, isNan}
 use borrow.Rule.Slice.PartMut.{putMid, postOf}
 use Rattle.cells.specs.HostBytes.{wordBytes, floatBytes, wholeFloat}
-use Rattle.answer.specs.HostAnswer.{floatsBytes, NoNans, hostAnswer, answerBytes}
+use Rattle.worksheet.specs.HostAnswer.{floatsBytes, NoNans, hostAnswer, answerBytes}
 
 pub word-bytes-length : (n w : ℕ) → length (wordBytes n w) ≡ n
 unfolding wordBytes

@@ -2,17 +2,11 @@
 use crate::floats::float_of;
 use crate::floats::write_floats;
 use cells::refusal::Outcome;
+use worksheet::answer::HostAnswer;
 ghost use mathlib.Core.Path.{_≡_};
 ghost use lib.ListN.{length};
 ghost use Rattle.cells.specs.Refusal.{resultOf};
-ghost use Rattle.answer.specs.HostAnswer.{answerResult, answerBuffer};
-
-// Utilisation, count and check number, in this order.
-pub struct HostAnswer {
-    pub utilisation: f64,
-    pub count: f64,
-    pub check: f64,
-}
+ghost use Rattle.worksheet.specs.HostAnswer.{answerResult, answerBuffer};
 
 // Fills 24 lent bytes with an answer; refuses another length and writes nothing.
 pub fn write_answer(out: &mut [u8], utilisation: u32, count: u32, check: u32) -> Outcome

@@ -9,7 +9,7 @@ ghost use lib.Ieee.{isNan};
 ghost use lib.ListN.{length};
 ghost use Rattle.cells.specs.HostBytes.{wordBytes, floatBytes, wholeFloat};
 ghost use Rattle.cells.specs.Refusal.{resultOf};
-ghost use Rattle.answer.specs.HostAnswer.{floatsResult, floatsBuffer, NoNans};
+ghost use Rattle.worksheet.specs.HostAnswer.{floatsResult, floatsBuffer, NoNans};
 
 // A whole number as a float. Up to 2^53 nothing is lost.
 pub fn float_of(n: u64) -> f64

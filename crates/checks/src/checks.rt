@@ -1,6 +1,6 @@
 // Slenderness and the strength checks of a member. Layout, joint length and checks 5 and 6 stand with the joint, in kinds.
-use crate::utilisation::against;
-use crate::utilisation::used_at;
+use governing::utilisation::against;
+use governing::utilisation::used_at;
 use member::member::Member;
 use member::verdict::Governing;
 use section::capacity::axial_capacity;

@@ -1,3 +1,2 @@
 // Slenderness and the strength checks of a member.
 pub mod checks;
-pub mod utilisation;

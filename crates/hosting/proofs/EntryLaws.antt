@@ -4,15 +4,15 @@ use Prim.Native.Nat.{ℕ}
 use mathlib.Core.List.{List}
 use mathlib.Core.Path.{_≡_, refl}
 use lib.ListN.{length}
-use Rattle.answer.specs.HostAnswer.{answerResult, answerBuffer}
-use Rattle.reading.specs.HostRow.{readHostRow}
+use Rattle.worksheet.specs.HostAnswer.{answerResult, answerBuffer}
+use Rattle.worksheet.specs.HostRow.{readHostRow}
 use Rattle.cells.specs.Refusal.{gives, refusedBy, refusalCode}
 use Rattle.cells.specs.declared.refusal.Refusal.{Refusal}
 use Rattle.cells.specs.declared.row.Cell.{Cell}
 use Rattle.member.specs.Verdict.{checkRow}
 use Rattle.member.specs.declared.verdict.Verdict.{Verdict}
 use Rattle.packed.specs.Packing.{packResult, packBuffer}
-use Rattle.hosting.specs.Entries.{passOrFail, verdictReturns, verdictLeaves, checkReturns, checkLeaves, packReturns, packLeaves}
+use Rattle.worksheet.specs.Entries.{passOrFail, verdictReturns, verdictLeaves, checkReturns, checkLeaves, packReturns, packLeaves}
 
 -- a verdict in an answer of another length, and of the right one
 module _ (verdict : Verdict) (answer : List ℕ) where

@@ -1,4 +1,1 @@
 pub mod EntryLaws
-pub mod HostDemand
-pub mod RefusalNumbers
-pub mod EntryMeaning

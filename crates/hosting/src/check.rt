@@ -8,7 +8,7 @@ use reading::host_row::read_host_row;
 use rowcheck::check::check_row;
 ghost use mathlib.Core.Path.{_≡_};
 ghost use lib.ListN.{length};
-ghost use Rattle.hosting.specs.Entries.{verdictReturns, verdictLeaves, checkReturns, checkLeaves, HostKeepsDemand3};
+ghost use Rattle.worksheet.specs.Entries.{verdictReturns, verdictLeaves, checkReturns, checkLeaves, HostKeepsDemand3};
 
 // A verdict as the host gets it: 0 for pass and 1 for fail, the rest of it in the answer's bytes; or the refusal of the answer's length.
 fn answer_verdict(verdict: Verdict, answer: &mut [u8]) -> u64

@@ -6,7 +6,7 @@ use packed::pack::Packed;
 use reading::host_row::read_host_row;
 ghost use mathlib.Core.Path.{_≡_};
 ghost use lib.ListN.{length};
-ghost use Rattle.hosting.specs.Entries.{packReturns, packLeaves};
+ghost use Rattle.worksheet.specs.Entries.{packReturns, packLeaves};
 
 // Packs the host's row of bytes. Returns the byte count, or 1000 × number + cell.
 pub fn pack_host_row(row: &[u8], buffer: &mut [u8]) -> u64

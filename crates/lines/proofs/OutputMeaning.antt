@@ -14,6 +14,11 @@ pub lines-none : linesOf [] ≡ []
 unfolding linesFrom
 lines-none = refl
 
+-- where the input ends between rows there is no line
+pub line-none : (number : ℕ) → lineFor number [] ≡ []
+unfolding lineFor
+line-none number = refl
+
 -- the first row's line, and then the lines for the rest
 pub lines-step : (number : ℕ) (left : List ℕ) → 0 < length left → let rest = drop (taken left) left in
     linesFrom (length left) number left ≡ lineFor number left ∷ linesFrom (length rest) (suc number) rest

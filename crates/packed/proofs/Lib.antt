@@ -3,3 +3,4 @@ pub mod CellLaws
 pub mod ParseLaws
 pub mod RoundTrip
 pub mod Sizes
+pub mod PackMeaning

@@ -1,5 +1,1 @@
-pub mod NumberLaws
-pub mod ReadingLaws
-pub mod HostRowLaws
-pub mod ReadingMeaning
-pub mod ReadRows
+pub mod LoopLaws

@@ -1,3 +1,1 @@
-pub mod Number
-pub mod Reading
-pub mod HostRow
+pub mod Answers

@@ -1,5 +1,4 @@
 // Read cells to whole numbers.
-use crate::number::Reading;
 use crate::number::read_number;
 use cells::refusal::Outcome;
 use cells::refusal::Refusal;
@@ -8,16 +7,13 @@ use cells::row::Cell;
 use cells::row::Row;
 use cells::row::Slot;
 use cells::row::blank_row;
+use worksheet::host_cell::HostCell;
+use worksheet::host_cell::Reading;
 ghost use mathlib.Core.Path.{_≡_};
 ghost use Rattle.cells.specs.Refusal.{resultOf, valueOr};
 ghost use Rattle.cells.specs.Row.{cellCount, cellsOf, blanks};
-ghost use Rattle.reading.specs.Reading.{readCell, readCells, refusedRow};
-
-// A cell as the host has it.
-pub enum HostCell {
-    Blank,
-    Number(f64),
-}
+ghost use Rattle.worksheet.specs.Reading.{readCell, readCells};
+ghost use Rattle.reading.specs.Answers.{refusedRow};
 
 // What reading answers: the row, or a refusal and a blank row.
 pub struct ReadRow {

@@ -1,14 +1,14 @@
 // The host's row of bytes.
-use crate::host_cells::HostCell;
 use crate::host_cells::ReadRow;
 use crate::host_cells::read_cell;
 use crate::host_cells::refused;
-use crate::number::Reading;
 use cells::refusal::Outcome;
 use cells::refusal::Refusal;
 use cells::row::CELLS;
 use cells::row::Slot;
 use cells::row::blank_row;
+use worksheet::host_cell::HostCell;
+use worksheet::host_cell::Reading;
 ghost use mathlib.Core.Path.{_≡_};
 ghost use Prim.Native.Nat.{_+_, _^_, _≤_, _<_};
 ghost use lib.ListN.{length};
@@ -16,7 +16,7 @@ ghost use lib.Ieee.{binary64, ofBits};
 ghost use Rattle.cells.specs.Refusal.{resultOf, valueOr};
 ghost use Rattle.cells.specs.Row.{cellCount, cellsOf, blanks};
 ghost use Rattle.cells.specs.HostBytes.{halfWordAt, wordAt};
-ghost use Rattle.reading.specs.HostRow.{hostCellBytes, hostCellAt, readHostRow};
+ghost use Rattle.worksheet.specs.HostRow.{hostCellBytes, hostCellAt, readHostRow};
 
 // The bytes of a host's cell: one that says whether it is filled, and eight of the float.
 const CELL_BYTES: usize = 9;

@@ -1,14 +1,9 @@
 // A float read to a whole number, from its bits.
 use cells::row::Cell;
+use worksheet::host_cell::Reading;
 ghost use mathlib.Core.Path.{_≡_};
 ghost use lib.Ieee.{binary64, ofBits};
-ghost use Rattle.reading.specs.Number.{readNumber};
-
-// What a host's cell reads as.
-pub enum Reading {
-    Read(Cell),
-    Unreadable,
-}
+ghost use Rattle.worksheet.specs.Number.{readNumber};
 
 fn whole(number: u64) -> Reading
     ensures { λ r. ⌜ r ≡ Reading.Read (Cell.Whole number) ⌝ }

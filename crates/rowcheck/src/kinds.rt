@@ -1,7 +1,4 @@
 // The verdict on a member of each kind.
-use crate::governing::by_strength;
-use crate::governing::failed_on;
-use crate::governing::greater;
 use checks::checks::bending_check;
 use checks::checks::buckling_across_height;
 use checks::checks::buckling_across_width;
@@ -12,10 +9,13 @@ use checks::checks::slender_across_height;
 use checks::checks::slender_across_width;
 use checks::checks::tension_bending_check;
 use checks::checks::tension_resistance;
-use checks::utilisation::against;
 use dowels::joint::joint_count;
 use dowels::joint::joint_length_holds;
 use dowels::joint::layout_holds;
+use governing::utilisation::against;
+use governing::verdicts::by_strength;
+use governing::verdicts::failed_on;
+use governing::verdicts::greater;
 use member::kind::Kind;
 use member::member::Member;
 use member::verdict::Verdict;

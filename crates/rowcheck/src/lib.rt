@@ -1,4 +1,3 @@
 // The row check: acceptance, then judgement by the checks of the kind.
 pub mod check;
-mod governing;
 mod kinds;

@@ -6,7 +6,7 @@ use mathlib.Core.List.{List}
 use Prim.Native.Nat.{ℕ}
 use lib.ListN.{length}
 use Rattle.cells.specs.Refusal.{whereGiven}
-use Rattle.answer.specs.HostAnswer.{floatsResult}
+use Rattle.worksheet.specs.HostAnswer.{floatsResult}
 use Rattle.answer.proofs.AnswerLaws.{three-floats, three-numbers}
 use Rattle.answer.proofs.answer.write_answer.Statement.{statement}
 use Rattle.answer.proofs.answer.write_answer.Tie as tie

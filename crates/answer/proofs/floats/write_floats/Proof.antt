@@ -8,7 +8,7 @@ use native.Mathlib.Omega.{arith}
 use lib.ListN.{length, take, length-take, length-drop}
 use lib.Seq.{take-all}
 use borrow.Rule.Slice.PartMut.{same-len-mid}
-use Rattle.answer.specs.HostAnswer.{floatsBytes}
+use Rattle.worksheet.specs.HostAnswer.{floatsBytes}
 use Rattle.answer.proofs.AnswerLaws.{word-bytes-length, floats-step}
 use Rattle.answer.proofs.floats.write_floats.Statement.{statement}
 use Rattle.answer.proofs.floats.write_floats.Tie as tie

@@ -7,7 +7,7 @@ use denote.Ref.{now}
 use Rattle.cells.specs.Row.{cellsOf}
 use Rattle.member.specs.Verdict.{answerResult}
 use Rattle.member.specs.declared.verdict.Answer.{Answer}
-use Rattle.hosting.proofs.HostDemand.{host-keeps-demand-3}
+use Rattle.worksheet.proofs.HostDemand.{host-keeps-demand-3}
 use Rattle.cells.proofs.ResultLaws.{refused-result, done-result}
 use Rattle.hosting.proofs.EntryLaws.{check-unread, check-refused, check-judged}
 use Rattle.hosting.proofs.check.check_host_row.Statement.{statement}

@@ -6,13 +6,14 @@ use Prim.Native.Nat.{_+_, _-_, _≤_, _<_}
 use native.Mathlib.Omega.{arith}
 use lib.ListN.{length, take, drop, length-set}
 use Rattle.cells.specs.Lowest.{lowest}
-use Rattle.reading.specs.Reading.{lowestUnreadable}
+use Rattle.worksheet.specs.Reading.{lowestUnreadable}
 use Rattle.cells.specs.Row.{cellCount}
 use Rattle.cells.specs.declared.row.Cell.the-variants.{Blank}
 use Rattle.cells.specs.declared.row.Row.{Row}
 use Rattle.cells.proofs.FillLaws.{fill-step, fill-end}
 use Rattle.cells.proofs.LowestLaws.{lowest-end}
-use Rattle.reading.proofs.ReadingLaws.{says-refused, says-row, asRead, read-given, read-refused, unreadable, wanted, search-on, wanted-length, wanted-at}
+use Rattle.reading.proofs.LoopLaws.{says-refused, says-row, unreadable, wanted, search-on, wanted-length, wanted-at}
+use Rattle.worksheet.proofs.ReadingLaws.{asRead, read-given, read-refused}
 use Rattle.reading.proofs.host_cells.read_cells.Statement.{statement}
 use Rattle.reading.proofs.host_cells.read_cells.Tie as tie
 

@@ -7,7 +7,7 @@ use lib.Dec.{T}
 use lib.Ieee.{binary64}
 use lib.Ieee.Bits.{nanBits-above}
 use borrow.Author.Tests.{le-ltb}
-use Rattle.reading.proofs.HostRowLaws.{zero-by-zero, nan-pattern}
+use Rattle.worksheet.proofs.HostRowLaws.{zero-by-zero, nan-pattern}
 use Rattle.reading.proofs.host_row.float_of.Statement.{statement}
 use Rattle.reading.proofs.host_row.float_of.Tie as tie
 

@@ -4,9 +4,9 @@ use borrow.Author.Needs.{needs}
 use mathlib.Core.Path.{ap, _∙_}
 use lib.Ieee.{binary64, ofBits}
 use borrow.Author.Tests.{eq-eqb, ne-eqb}
-use Rattle.reading.specs.HostRow.{hostCellAt}
-use Rattle.reading.specs.declared.host_cells.HostCell.the-variants.{Number}
-use Rattle.reading.proofs.HostRowLaws.{zero-by-zero}
+use Rattle.worksheet.specs.HostRow.{hostCellAt}
+use Rattle.worksheet.specs.declared.host_cell.HostCell.the-variants.{Number}
+use Rattle.worksheet.proofs.HostRowLaws.{zero-by-zero}
 use Rattle.reading.proofs.host_row.host_cell_at.Statement.{statement}
 use Rattle.reading.proofs.host_row.host_cell_at.Tie as tie
 

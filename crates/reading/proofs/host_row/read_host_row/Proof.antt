@@ -8,20 +8,21 @@ use native.Mathlib.Nat.{zero-add}
 use native.Mathlib.Omega.{arith}
 use lib.ListN.{length, getD, take, drop, length-set}
 use borrow.Author.Tests.{eq-eqb}
-use Rattle.reading.specs.HostRow.{hostCellBytes, hostCellAt, hostCellsAt, readHostRow}
+use Rattle.worksheet.specs.HostRow.{hostCellBytes, hostCellAt, hostCellsAt, readHostRow}
 use Rattle.cells.specs.Lowest.{lowest}
-use Rattle.reading.specs.Reading.{readCell, readCells, lowestUnreadable}
+use Rattle.worksheet.specs.Reading.{readCell, readCells, lowestUnreadable}
 use Rattle.cells.specs.Row.{cellCount}
-use Rattle.reading.specs.declared.number.Reading.{Reading}
+use Rattle.worksheet.specs.declared.host_cell.Reading.{Reading}
 use Rattle.cells.specs.declared.row.Cell.the-variants.{Blank}
-use Rattle.reading.specs.declared.host_cells.HostCell.{HostCell}
-use Rattle.reading.specs.declared.host_cells.HostCell.the-variants.{Blank as Empty}
+use Rattle.worksheet.specs.declared.host_cell.HostCell.{HostCell}
+use Rattle.worksheet.specs.declared.host_cell.HostCell.the-variants.{Blank as Empty}
 use Rattle.cells.specs.declared.row.Row.{Row}
 use Rattle.cells.proofs.FillLaws.{fill-step, fill-end}
-use Rattle.reading.proofs.HostRowLaws.{host-cells-length, host-cells-at}
+use Rattle.worksheet.proofs.HostRowLaws.{host-cells-length, host-cells-at}
 use Rattle.cells.proofs.LowestLaws.{lowest-end}
-use Rattle.reading.proofs.ReadingLaws.{says-refused, says-row, asRead, read-given, read-refused, unreadable, wanted, search-on, wanted-length, wanted-at}
-use Rattle.reading.proofs.ReadingMeaning.{another-length}
+use Rattle.reading.proofs.LoopLaws.{says-refused, says-row, unreadable, wanted, search-on, wanted-length, wanted-at}
+use Rattle.worksheet.proofs.ReadingLaws.{asRead, read-given, read-refused}
+use Rattle.worksheet.proofs.ReadingMeaning.{another-length}
 use Rattle.reading.proofs.host_row.read_host_row.Statement.{statement}
 use Rattle.reading.proofs.host_row.read_host_row.Tie as tie
 

@@ -5,7 +5,7 @@ use Prim.Native.Nat.{_+_, _-_, _/_, _%_, _^_, _≤_}
 use mathlib.Core.Path.{sym, _∙_}
 use mathlib.Core.Bool.{false}
 use native.Mathlib.Omega.{arith}
-use Rattle.reading.proofs.NumberLaws.{zero-bits, negative-bits, small-bits, large-bits, middle-bits, not-whole, is-whole, back-whole, back-part, quotient-lt}
+use Rattle.worksheet.proofs.NumberLaws.{zero-bits, negative-bits, small-bits, large-bits, middle-bits, not-whole, is-whole, back-whole, back-part, quotient-lt}
 use Rattle.reading.proofs.number.read_bits.Statement.{statement}
 use Rattle.reading.proofs.number.read_bits.Tie as tie
 

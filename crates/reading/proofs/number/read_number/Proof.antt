@@ -7,8 +7,8 @@ use lib.Dec.{T}
 use lib.Ieee.{Float, nan, inf, fin, binary64, ne, isNan}
 use lib.Ieee.Bits.{ofBits-toBits}
 use lib.Ieee.Compare.{differs-from-itself}
-use Rattle.reading.specs.Number.{readNumber}
-use Rattle.reading.specs.declared.number.Reading.the-variants.{Unreadable}
+use Rattle.worksheet.specs.Number.{readNumber}
+use Rattle.worksheet.specs.declared.host_cell.Reading.the-variants.{Unreadable}
 use Rattle.reading.proofs.number.read_number.Statement.{statement}
 use Rattle.reading.proofs.number.read_number.Tie as tie
 

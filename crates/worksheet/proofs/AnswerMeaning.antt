@@ -1,0 +1,42 @@
+-- What the answer's bytes mean: read as three floats, lowest byte first, they are utilisation, count and check number, with nothing lost.
+-- Assumes nothing.
+use mathlib.Core.Path.{_≡_, refl, ap, _∙_}
+use mathlib.Core.Bool.{false}
+use mathlib.Core.List.{[], _∷_, _++_}
+use Prim.Native.Nat.{ℕ, _^_, _<_}
+use native.Mathlib.Omega.{arith}
+use lib.IntN.{pos}
+use lib.Ieee.{binary64, ofInt, ofBits, toBits}
+use lib.Ieee.Bits.{ofBits-toBits, toBits-lt}
+use lib.Ieee.Exact.{HasValue}
+use lib.Ieee.Fits.{ofInt-fits}
+use Rattle.cells.specs.HostBytes.{wordBytes, wordAt, floatBytes, wholeFloat}
+use Rattle.cells.proofs.FloatLaws.{whole-exact}
+use Rattle.worksheet.specs.HostAnswer.{hostAnswer, answerBytes}
+
+-- three numbers of 64 bits, one after the other, from their bytes
+words-back : (x y z : ℕ) → x < 2 ^ 64 → y < 2 ^ 64 → z < 2 ^ 64
+    → (wordAt (wordBytes 8 x ++ wordBytes 8 y ++ wordBytes 8 z) 0 ≡ x)
+    × (wordAt (wordBytes 8 x ++ wordBytes 8 y ++ wordBytes 8 z) 8 ≡ y)
+    × (wordAt (wordBytes 8 x ++ wordBytes 8 y ++ wordBytes 8 z) 16 ≡ z)
+unfolding wordBytes
+words-back x y z p q r = (omega arith, omega arith, omega arith)
+
+-- The answer's 24 bytes, as the host reads them: the floats at 0, 8 and 16.
+pub answer-floats : (utilisation count check : ℕ)
+    → (ofBits binary64 (wordAt (answerBytes (hostAnswer utilisation count check)) 0) ≡ wholeFloat utilisation)
+    × (ofBits binary64 (wordAt (answerBytes (hostAnswer utilisation count check)) 8) ≡ wholeFloat count)
+    × (ofBits binary64 (wordAt (answerBytes (hostAnswer utilisation count check)) 16) ≡ wholeFloat check)
+answer-floats utilisation count check =
+    let w = words-back _ _ _ (bits-lt utilisation) (bits-lt count) (bits-lt check) in
+    (back _ utilisation (w .0), back _ count (w .1), back _ check (w .2))
+  where
+    bits-lt : (n : ℕ) → toBits binary64 (wholeFloat n) < 2 ^ 64
+    bits-lt n = toBits-lt binary64 (wholeFloat n) (ofInt-fits binary64 (pos n))
+
+    back : (w n : ℕ) → w ≡ toBits binary64 (wholeFloat n) → ofBits binary64 w ≡ wholeFloat n
+    back w n e = ap (ofBits binary64) e ∙ ofBits-toBits binary64 (wholeFloat n) (ofInt-fits binary64 (pos n))
+
+-- Every whole number of 32 bits is converted without loss: its float has its value.
+pub lossless : (n : ℕ) → n < 2 ^ 32 → HasValue (wholeFloat n) false n 1
+lossless n h = whole-exact n (omega arith)

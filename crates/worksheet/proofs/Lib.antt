@@ -1,0 +1,9 @@
+pub mod NumberLaws
+pub mod ReadingLaws
+pub mod HostRowLaws
+pub mod ReadingMeaning
+pub mod ReadRows
+pub mod AnswerMeaning
+pub mod RefusalNumbers
+pub mod HostDemand
+pub mod EntryMeaning

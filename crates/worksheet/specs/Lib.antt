@@ -1,0 +1,5 @@
+pub mod Number
+pub mod Reading
+pub mod HostRow
+pub mod HostAnswer
+pub mod Entries
