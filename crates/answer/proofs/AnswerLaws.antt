@@ -1,18 +1,17 @@
 -- A number's bytes stored one after another, and lent bytes that floats fill part by part.
 -- Assumes nothing.
 use mathlib.Core.Path.{_≡_, refl, sym, ap, ap₂, _∙_}
-use mathlib.Core.Bool.{not}
 use mathlib.Core.List.{List, [], _∷_, _++_, append-nil, append-assoc}
-use Prim.Native.Nat.{ℕ, zero, suc, _+_, _*_, _/_, _%_, _<_}
+use Prim.Native.Nat.{ℕ, zero, suc, _+_, _*_, _/_, _%_, _^_, _<_}
 use native.Mathlib.Numerals.{add-one}
 use native.Mathlib.Omega.{arith}
-use lib.Dec.{T}
 use lib.ListN.{length, getD, take, set, length-append, length-take}
 use lib.Seq.{take-at, take-suc-set, append-snoc}
-use lib.Ieee.{Float, nan, binary64, toBits, isNan}
+use lib.Ieee.{Float, nan, binary64, toBits}
 use borrow.Rule.Slice.PartMut.{putMid, postOf}
 use Rattle.cells.specs.HostBytes.{wordBytes, floatBytes, wholeFloat}
-use Rattle.worksheet.specs.HostAnswer.{floatsBytes, NoNans, hostAnswer, answerBytes}
+use Rattle.cells.proofs.FloatLaws.{whole-not-nan}
+use Rattle.worksheet.specs.HostAnswer.{floatsBytes, NoNans}
 
 pub word-bytes-length : (n w : ℕ) → length (wordBytes n w) ≡ n
 unfolding wordBytes
@@ -48,17 +47,10 @@ floats-step l ys xs i k h whole before e =
 
 -- ---- the answer's three
 
-in-a-row : (x y z : Float) → floatsBytes (x ∷ y ∷ z ∷ []) ≡ floatBytes x ++ floatBytes y ++ floatBytes z
-unfolding floatsBytes
-in-a-row x y z =
-    ap (λ (bytes : List ℕ). floatBytes x ++ (floatBytes y ++ bytes)) (append-nil (floatBytes z)) ∙ sym (append-assoc (floatBytes x) (floatBytes y) (floatBytes z))
-
-pub three-floats : (x y z : Float) (utilisation count check : ℕ) → x ≡ wholeFloat utilisation → y ≡ wholeFloat count → z ≡ wholeFloat check
-    → floatsBytes (x ∷ y ∷ z ∷ []) ≡ answerBytes (hostAnswer utilisation count check)
-three-floats x y z utilisation count check p q r = rw (p, q, r) (in-a-row (wholeFloat utilisation) (wholeFloat count) (wholeFloat check))
-
-pub three-numbers : (x y z : Float) → T (not (isNan x)) → T (not (isNan y)) → T (not (isNan z)) → NoNans (x ∷ y ∷ z ∷ [])
-three-numbers x y z p q r zero h = p
-three-numbers x y z p q r (suc zero) h = q
-three-numbers x y z p q r (suc (suc zero)) h = r
-three-numbers x y z p q r (suc (suc (suc i))) h = absurd (omega arith)
+-- an answer made of numbers of 32 bits has no NaN
+pub answer-numbers : (utilisation count check : ℕ) → utilisation < 2 ^ 32 → count < 2 ^ 32 → check < 2 ^ 32
+    → NoNans (wholeFloat utilisation ∷ wholeFloat count ∷ wholeFloat check ∷ [])
+answer-numbers u c k p q r zero h = whole-not-nan u (omega arith)
+answer-numbers u c k p q r (suc zero) h = whole-not-nan c (omega arith)
+answer-numbers u c k p q r (suc (suc zero)) h = whole-not-nan k (omega arith)
+answer-numbers u c k p q r (suc (suc (suc i))) h = absurd (omega arith)

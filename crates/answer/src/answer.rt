@@ -6,18 +6,25 @@ use worksheet::answer::HostAnswer;
 ghost use mathlib.Core.Path.{_≡_};
 ghost use lib.ListN.{length};
 ghost use Rattle.cells.specs.Refusal.{resultOf};
-ghost use Rattle.worksheet.specs.HostAnswer.{answerResult, answerBuffer};
+ghost use Rattle.worksheet.specs.HostAnswer.{hostAnswer, answerResult, answerBuffer};
+
+// The three numbers of an answer, each as a float.
+fn host_answer(utilisation: u32, count: u32, check: u32) -> HostAnswer
+    ensures { λ r. ⌜ r ≡ hostAnswer utilisation count check ⌝ }
+{
+    HostAnswer {
+        utilisation: float_of(utilisation as u64),
+        count: float_of(count as u64),
+        check: float_of(check as u64),
+    }
+}
 
 // Fills 24 lent bytes with an answer; refuses another length and writes nothing.
 pub fn write_answer(out: &mut [u8], utilisation: u32, count: u32, check: u32) -> Outcome
     ensures result { λ r. ⌜ resultOf r tt ≡ answerResult (length (now (out .entry))) ⌝ }
     ensures buffer { λ _. ⌜ now (out .exit) ≡ answerBuffer utilisation count check (now (out .entry)) ⌝ }
 {
-    let answer = HostAnswer {
-        utilisation: float_of(utilisation as u64),
-        count: float_of(count as u64),
-        check: float_of(check as u64),
-    };
+    let answer = host_answer(utilisation, count, check);
     let floats = [answer.utilisation, answer.count, answer.check];
     write_floats(out, &floats)
 }

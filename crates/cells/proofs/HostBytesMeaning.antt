@@ -7,6 +7,10 @@ use native.Mathlib.Omega.{arith}
 use lib.Ieee.{ofInt, toBits}
 use Rattle.cells.specs.HostBytes.{wordBytes, wordAt, floatBytes, wholeFloat}
 
+-- The first byte is the lowest.
+pub first-lowest : wordAt (1 ∷ 0 ∷ 0 ∷ 0 ∷ 0 ∷ 0 ∷ 0 ∷ 0 ∷ []) 0 ≡ 1
+first-lowest = refl
+
 -- A number of 64 bits, from its bytes.
 pub word-back : (w : ℕ) → w < 2 ^ 64 → wordAt (wordBytes 8 w) 0 ≡ w
 unfolding wordBytes

@@ -1,4 +1,4 @@
-// Slenderness and the strength checks of a member. Layout, joint length and checks 5 and 6 stand with the joint, in kinds.
+// Slenderness and the strength checks of a member. Layout, joint length and checks 5 and 6 stand with the joint, in `rowcheck`.
 use governing::utilisation::against;
 use governing::utilisation::used_at;
 use member::member::Member;

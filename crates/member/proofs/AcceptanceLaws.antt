@@ -32,7 +32,7 @@ use Rattle.member.specs.declared.kind.KindCode.the-variants.{Known, Unkn
 use Rattle.member.specs.declared.member.Member.{Member}
 
 -- a row in which no cell breaks a rule
-pub record Accepted (kind : Kind) (begun : Bool) (cells : List Cell) : Type 0 where
+pub record Unbroken (kind : Kind) (begun : Bool) (cells : List Cell) : Type 0 where
   pub fill : lowestThat Fill kind begun cells ≡ 0
   pub code : lowestThat Code kind begun cells ≡ 0
   pub range : lowestThat Range kind begun cells ≡ 0
@@ -60,7 +60,7 @@ same-as-true : (x : Bool) → Bool·beq x true ≡ true → x ≡ true
 same-as-true true e = refl
 same-as-true false e = e
 
-module _ (kind : Kind) (begun : Bool) (cells : List Cell) (whole : length cells ≡ cellCount) (ok : Accepted kind begun cells) where
+module _ (kind : Kind) (begun : Bool) (cells : List Cell) (whole : length cells ≡ cellCount) (ok : Unbroken kind begun cells) where
   -- no cell breaks a rule
   unbroken : (rule : Rule) → lowestThat rule kind begun cells ≡ 0 → (k : ℕ) → k < cellCount → breaks rule kind begun (1 + k) (getD cells k Blank) ≡ false
   unfolding lowestThat
@@ -87,7 +87,7 @@ module _ (kind : Kind) (begun : Bool) (cells : List Cell) (whole : length cells 
   code-known k h w = rw (value-at k) (passes-test _ _ (filled-at k h w) (unbroken Code (ok .code) k h))
 
 -- the member of a row in which no cell breaks a rule
-module _ (kind : Kind) (begun : Bool) (cells : List Cell) (whole : length cells ≡ cellCount) (ok : Accepted kind begun cells) where
+module _ (kind : Kind) (begun : Bool) (cells : List Cell) (whole : length cells ≡ cellCount) (ok : Unbroken kind begun cells) where
   abbrev here : Member
   here = memberOf kind begun (valuesOf cells)
 
@@ -120,7 +120,7 @@ module _ (kind : Kind) (begun : Bool) (cells : List Cell) (whole : length cells 
       leb-true _ _ (same-as-true _ same)
 
 -- the joint of a row that has begun one
-joint-in : (cells : List Cell) → length cells ≡ cellCount → Accepted Tension true cells → JointRanges (jointOf (valuesOf cells))
+joint-in : (cells : List Cell) → length cells ≡ cellCount → Unbroken Tension true cells → JointRanges (jointOf (valuesOf cells))
 joint-in cells whole ok =
     let at = cell-in Tension true cells whole ok in
     record {
@@ -143,7 +143,7 @@ none-begun kind cells none =
     rw (lowest-of-passing (breaks Begin kind false) pass 1 cells)
 
 -- the ranges that the member of an accepted row keeps
-pub accepted-ranges : (kind : Kind) (cells : List Cell) {begun : Bool} → length cells ≡ cellCount → begun ≡ isBegun kind cells → Accepted kind begun cells → RangesOf kind (memberOf kind begun (valuesOf cells))
+pub accepted-ranges : (kind : Kind) (cells : List Cell) {begun : Bool} → length cells ≡ cellCount → begun ≡ isBegun kind cells → Unbroken kind begun cells → RangesOf kind (memberOf kind begun (valuesOf cells))
 accepted-ranges Tension cells {begun} whole is ok = (
   sized Tension begun cells whole ok (refl, refl, refl, refl, refl),
   braced Tension begun cells whole ok (refl, refl, refl),
@@ -186,7 +186,7 @@ module _ (kind : Kind) (cells : List Cell) {begun : Bool} (is : begun ≡ isBegu
   unfolding acceptKind
   range-refused f c e some = rw (← is, f, c, ← e, ne-eqb _ _ some)
 
-  pub none-refused : Accepted kind begun cells → acceptKind kind cells ≡ gives (memberOf kind begun (valuesOf cells))
+  pub none-refused : Unbroken kind begun cells → acceptKind kind cells ≡ gives (memberOf kind begun (valuesOf cells))
   unfolding acceptKind
   none-refused ok = rw (← is, ok .fill, ok .code, ok .range)
 

@@ -8,3 +8,4 @@ pub mod Lighter
 pub mod DemandMeaning
 pub mod NothingEmpty
 pub mod RefusalMeaning
+pub mod ChecksMeaning

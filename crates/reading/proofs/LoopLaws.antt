@@ -2,15 +2,13 @@
 -- Assumes nothing.
 use mathlib.Core.Path.{_≡_, refl, sym, ap, _∙_}
 use mathlib.Core.Bool.{Bool, cond}
-use mathlib.Core.List.{List, map}
+use mathlib.Core.List.{List}
 use Prim.Native.Nat.{ℕ, _+_, _<_}
-use native.Mathlib.Omega.{arith}
 use lib.ListN.{length, getD, drop, length-map, List·getD-map}
-use borrow.Author.Tests.{ne-eqb}
 use Rattle.cells.specs.Lowest.{lowest}
-use Rattle.worksheet.specs.Reading.{readCell, isUnreadable, cellRead, lowestUnreadable, readCells}
+use Rattle.worksheet.specs.Reading.{readCell, isUnreadable, cellRead}
 use Rattle.reading.specs.Answers.{refusedRow}
-use Rattle.cells.specs.Refusal.{Result, gives, refuses, refusedBy, resultOf, valueOr}
+use Rattle.cells.specs.Refusal.{Result, gives, refusedBy, resultOf, valueOr}
 use Rattle.cells.specs.Row.{cellCount, cellsOf, rowOf, blanks}
 use Rattle.worksheet.specs.declared.host_cell.Reading.{Reading}
 use Rattle.reading.specs.declared.host_cells.ReadRow.{ReadRow}

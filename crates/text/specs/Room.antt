@@ -1,4 +1,4 @@
--- Room in a line. Only functions within the crate cite it.
+-- Room in a line. Only functions that put a line together cite it.
 -- Assumes nothing.
 use Prim.Native.Nat.{ℕ, _+_, _≤_}
 use mathlib.Core.Path.{_≡_}

@@ -1,18 +1,16 @@
--- What the answer's bytes mean: read as three floats, lowest byte first, they are utilisation, count and check number, with nothing lost.
+-- What the answer's bytes mean: read as three floats, lowest byte first, they are utilisation, count and check number; and they are written as any number of floats is.
 -- Assumes nothing.
-use mathlib.Core.Path.{_≡_, refl, ap, _∙_}
-use mathlib.Core.Bool.{false}
-use mathlib.Core.List.{[], _∷_, _++_}
+use mathlib.Core.Path.{_≡_, refl, sym, ap, _∙_}
+use mathlib.Core.List.{List, [], _∷_, _++_, append-nil, append-assoc}
 use Prim.Native.Nat.{ℕ, _^_, _<_}
 use native.Mathlib.Omega.{arith}
 use lib.IntN.{pos}
-use lib.Ieee.{binary64, ofInt, ofBits, toBits}
+use lib.Ieee.{binary64, ofBits, toBits}
 use lib.Ieee.Bits.{ofBits-toBits, toBits-lt}
-use lib.Ieee.Exact.{HasValue}
 use lib.Ieee.Fits.{ofInt-fits}
 use Rattle.cells.specs.HostBytes.{wordBytes, wordAt, floatBytes, wholeFloat}
-use Rattle.cells.proofs.FloatLaws.{whole-exact}
-use Rattle.worksheet.specs.HostAnswer.{hostAnswer, answerBytes}
+use Rattle.worksheet.specs.HostAnswer.{floatsBytes, floatsResult, hostAnswer, answerBytes, answerResult}
+use Rattle.worksheet.specs.declared.answer.HostAnswer.{HostAnswer}
 
 -- three numbers of 64 bits, one after the other, from their bytes
 words-back : (x y z : ℕ) → x < 2 ^ 64 → y < 2 ^ 64 → z < 2 ^ 64
@@ -37,6 +35,12 @@ answer-floats utilisation count check =
     back : (w n : ℕ) → w ≡ toBits binary64 (wholeFloat n) → ofBits binary64 w ≡ wholeFloat n
     back w n e = ap (ofBits binary64) e ∙ ofBits-toBits binary64 (wholeFloat n) (ofInt-fits binary64 (pos n))
 
--- Every whole number of 32 bits is converted without loss: its float has its value.
-pub lossless : (n : ℕ) → n < 2 ^ 32 → HasValue (wholeFloat n) false n 1
-lossless n h = whole-exact n (omega arith)
+-- The answer is three floats, as any number of floats is written.
+pub answer-is-floats : (answer : HostAnswer) → floatsBytes (answer .utilisation ∷ answer .count ∷ answer .check ∷ []) ≡ answerBytes answer
+unfolding floatsBytes
+answer-is-floats answer =
+    ap (λ (bytes : List ℕ). floatBytes (answer .utilisation) ++ (floatBytes (answer .count) ++ bytes)) (append-nil (floatBytes (answer .check)))
+    ∙ sym (append-assoc (floatBytes (answer .utilisation)) (floatBytes (answer .count)) (floatBytes (answer .check)))
+
+pub answer-has-three : (room : ℕ) → floatsResult 3 room ≡ answerResult room
+answer-has-three room = refl

@@ -60,6 +60,10 @@ was-judged row room below = by-read (readHostRow row) refl below
         let low = subst (λ (r : Result (List Cell)). Numbered 1 1 r) e (reading-numbered row) .low in
         absurd (omega (arith, z, low))
 
+-- the answer's length is tested last: a refusal of the row stands, whatever the answer's length
+pub length-last : (row : List ℕ) (room number cell : ℕ) → andThen (readHostRow row) checkRow ≡ refuses number cell → hostCheck row room ≡ refuses number cell
+length-last row room number cell e = rw e
+
 passed : (v : Verdict) → passOrFail v ≡ 0 → v .passes ≡ true
 passed v e = by (v .passes) e
   where

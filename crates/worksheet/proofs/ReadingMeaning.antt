@@ -165,6 +165,10 @@ one-from-bytes = refl
 pub another-length : (bytes : List ℕ) → (length bytes ≡ 198 → ⊥) → readHostRow bytes ≡ refuses 1 0
 another-length bytes other = rw (ne-eqb (length bytes) 198 other)
 
+-- A blank cell reads as blank.
+pub blank-stays : readCell Empty ≡ Read Blank
+blank-stays = refl
+
 -- A first byte of 0 makes it blank, whatever its other bytes.
 pub blank-whatever-follows : (bytes : List ℕ) (at : ℕ) → getD bytes at 0 ≡ 0 → hostCellAt bytes at ≡ Empty
 unfolding hostCellAt

@@ -92,7 +92,3 @@ narrow-none n (Whole value ∷ cells) narrow = rw (lt-ltb value (2 ^ valueBits) 
 
 pub none-wide : (bytes : List ℕ) (cells : List Cell) → readHostRow bytes ≡ gives cells → lowestWide cells ≡ 0
 none-wide bytes cells e = narrow-none 1 cells (row-as-read bytes cells e .narrow)
-
--- so packing what was read refuses with 5 alone
-pub pack-numbered : (bytes : List ℕ) (room : ℕ) (cells : List Cell) → readHostRow bytes ≡ gives cells → Numbered 5 5 (packResult cells room)
-pack-numbered bytes room cells e = rw (none-wide bytes cells e) (by-test 5 5 5 0 (gives (length (packed cells))) (within 5 5 5 (omega arith) (omega arith)) tt (leb (length (packed cells)) room))

@@ -9,7 +9,7 @@ use Rattle.cells.specs.Refusal.{gives}
 use Rattle.cells.specs.Row.{cellsOf}
 use Rattle.member.specs.Acceptance.{lowestThat, isBegun}
 use Rattle.member.specs.Member.{valuesOf, memberOf}
-use Rattle.member.proofs.AcceptanceLaws.{Accepted, fill-refused, code-refused, range-refused, none-refused}
+use Rattle.member.proofs.AcceptanceLaws.{Unbroken, fill-refused, code-refused, range-refused, none-refused}
 use Rattle.member.specs.declared.kind.Kind.the-variants.{Tension}
 use Rattle.member.specs.declared.acceptance.Rule.the-variants.{Code, Range}
 use Rattle.acceptance.proofs.SearchLaws.{codes-begun-or-not, ranges-of-any-kind}
@@ -68,7 +68,7 @@ returns-3 c =
     )
 
 -- no cell breaks a rule
-accepted : (c : tie.Else3) → let s = c .before .before .before .before .before .before in Accepted (s .before .args .kind) (begun s) (cellsOf (s .before .args .row))
+accepted : (c : tie.Else3) → let s = c .before .before .before .before .before .before in Unbroken (s .before .args .kind) (begun s) (cellsOf (s .before .args .row))
 accepted c =
     let code = c .before .before in
     let fill = code .before .before in

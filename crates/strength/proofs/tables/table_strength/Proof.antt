@@ -1,3 +1,5 @@
+-- `table_strength` meets its contract: one line of Table 7 for each stress.
+-- Assumes nothing.
 use borrow.Author.Needs.{needs}
 use Rattle.strength.proofs.tables.table_strength.Statement.{statement}
 use Rattle.strength.proofs.tables.table_strength.Tie as tie
