@@ -45,6 +45,11 @@ pub short-row : unpacked cellCount (0x80 ∷ []) ≡ refuses 6 1
 unfolding bits bitsOf parse ending unpacked
 short-row = refl
 
+-- eight blanks and no more: cell 9 is cut off
+pub cut-row : unpacked cellCount (0 ∷ []) ≡ refuses 6 9
+unfolding bits bitsOf parse before ending unpacked
+cut-row = refl
+
 -- 22 blanks and a padding bit that is 1
 pub padded-row : unpacked cellCount (0 ∷ 0 ∷ 1 ∷ []) ≡ refuses 7 0
 unfolding bits bitsOf parse before anySet ending unpacked

@@ -9,6 +9,8 @@ use lib.Ieee.{binary64, ofBits, toBits}
 use lib.Ieee.Bits.{ofBits-toBits, toBits-lt}
 use lib.Ieee.Fits.{ofInt-fits}
 use Rattle.cells.specs.HostBytes.{wordBytes, wordAt, floatBytes, wholeFloat}
+use Rattle.member.specs.declared.verdict.Verdict.{Verdict}
+use Rattle.worksheet.specs.Entries.{verdictBytes}
 use Rattle.worksheet.specs.HostAnswer.{floatsBytes, floatsResult, hostAnswer, answerBytes, answerResult}
 use Rattle.worksheet.specs.declared.answer.HostAnswer.{HostAnswer}
 
@@ -34,6 +36,13 @@ answer-floats utilisation count check =
 
     back : (w n : ℕ) → w ≡ toBits binary64 (wholeFloat n) → ofBits binary64 w ≡ wholeFloat n
     back w n e = ap (ofBits binary64) e ∙ ofBits-toBits binary64 (wholeFloat n) (ofInt-fits binary64 (pos n))
+
+-- So they are of a verdict: its utilisation, its count, its check number.
+pub verdict-floats : (v : Verdict)
+    → (ofBits binary64 (wordAt (verdictBytes v) 0) ≡ wholeFloat (v .utilisation))
+    × (ofBits binary64 (wordAt (verdictBytes v) 8) ≡ wholeFloat (v .count))
+    × (ofBits binary64 (wordAt (verdictBytes v) 16) ≡ wholeFloat (v .check))
+verdict-floats v = answer-floats (v .utilisation) (v .count) (v .check)
 
 -- The answer is three floats, as any number of floats is written.
 pub answer-is-floats : (answer : HostAnswer) → floatsBytes (answer .utilisation ∷ answer .count ∷ answer .check ∷ []) ≡ answerBytes answer

@@ -143,6 +143,11 @@ pub bad-tag-unreadable : (bytes : List ℕ) (at : ℕ) → (getD bytes at 0 ≡ 
 unfolding hostCellAt readNumber
 bad-tag-unreadable bytes at a b = rw (ne-eqb _ _ a, ne-eqb _ _ b)
 
+-- The test of a search finds a cell unreadable exactly where it is.
+pub told-unreadable : (r : Reading) → (isUnreadable r ≡ true) ↔ (r ≡ Unreadable)
+told-unreadable (Read cell) = (λ t. absurd (true≢false (sym t)), λ e. absurd (let z : _≡_ {A = ℕ} 0 1 = cc in omega arith))
+told-unreadable Unreadable = (λ t. refl, λ e. refl)
+
 -- A refusal of reading is refusal 1 and names a cell that is unreadable, while every cell below it is readable.
 pub lowest-named : (cells : List HostCell) (number cell : ℕ) → readCells cells ≡ refuses number cell
     → (number ≡ 1) × (i : ℕ) × (cell ≡ 1 + i) × FailsAt (λ (n : ℕ) (c : HostCell). isUnreadable (readCell c)) 1 cells i
