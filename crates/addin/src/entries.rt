@@ -3,6 +3,7 @@ use hosting::check::check_host_row;
 use hosting::pack::pack_host_row;
 ghost use mathlib.Core.Path.{_≡_};
 ghost use lib.ListN.{length};
+ghost use Rattle.member.specs.Demand3.{demandFactor};
 ghost use Rattle.worksheet.specs.Entries.{checkReturns, checkLeaves, packReturns, packLeaves, HostKeepsDemand3};
 
 // Checks the host's row of bytes. Returns 0 for pass, 1 for fail, or 1000 × number + cell.
@@ -10,7 +11,7 @@ ghost use Rattle.worksheet.specs.Entries.{checkReturns, checkLeaves, packReturn
 pub extern "C" fn lvl_check_row(row: &[u8], answer: &mut [u8]) -> u64
     ensures result { λ r. ⌜ r ≡ checkReturns (now (row .entry)) (length (now (answer .entry))) ⌝ }
     ensures buffer { λ _. ⌜ now (answer .exit) ≡ checkLeaves (now (row .entry)) (now (answer .entry)) ⌝ }
-    ensures demand { λ r. ⌜ HostKeepsDemand3 (now (row .entry)) (now (answer .entry)) r (now (answer .exit)) 1005 ⌝ }
+    ensures demand { λ r. ⌜ HostKeepsDemand3 (now (row .entry)) (now (answer .entry)) r (now (answer .exit)) demandFactor ⌝ }
 {
     check_host_row(row, answer)
 }

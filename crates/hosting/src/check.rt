@@ -8,6 +8,7 @@ use reading::host_row::read_host_row;
 use rowcheck::check::check_row;
 ghost use mathlib.Core.Path.{_≡_};
 ghost use lib.ListN.{length};
+ghost use Rattle.member.specs.Demand3.{demandFactor};
 ghost use Rattle.worksheet.specs.Entries.{verdictReturns, verdictLeaves, checkReturns, checkLeaves, HostKeepsDemand3};
 
 // A verdict as the host gets it: 0 for pass and 1 for fail, the rest of it in the answer's bytes; or the refusal of the answer's length.
@@ -27,7 +28,7 @@ fn answer_verdict(verdict: Verdict, answer: &mut [u8]) -> u64
 pub fn check_host_row(row: &[u8], answer: &mut [u8]) -> u64
     ensures result { λ r. ⌜ r ≡ checkReturns (now (row .entry)) (length (now (answer .entry))) ⌝ }
     ensures buffer { λ _. ⌜ now (answer .exit) ≡ checkLeaves (now (row .entry)) (now (answer .entry)) ⌝ }
-    ensures demand { λ r. ⌜ HostKeepsDemand3 (now (row .entry)) (now (answer .entry)) r (now (answer .exit)) 1005 ⌝ }
+    ensures demand { λ r. ⌜ HostKeepsDemand3 (now (row .entry)) (now (answer .entry)) r (now (answer .exit)) demandFactor ⌝ }
 {
     let read = read_host_row(row);
     let outcome = read.outcome;

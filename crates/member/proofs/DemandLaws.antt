@@ -51,16 +51,16 @@ same-yes-no c d e = sym (yes-no-at c) ∙ ap yesNoAt e ∙ yes-no-at d
 
 module _ (m : Member) (f : Forces) where
   -- a strength check with its unrounded form
-  abbrev pub StrengthSound : ℕ → Strength → Type 0
-  StrengthSound g c = Sound g (utilisationOf m c) (Holds m f (strength c)) (λ k. Holds m (times k f) (strength c))
+  abbrev pub StrengthSound : (Check → ℕ) → Strength → Type 0
+  StrengthSound g c = Sound (g (strength c)) (utilisationOf m c) (Holds m f (strength c)) (λ k. Holds m (times k f) (strength c))
 
   -- what the checks of the row owe: joint length, strength where the yes-or-no checks hold, and the count
-  pub record ChecksSound (g : ℕ) : Type 0 where
+  pub record ChecksSound (g : Check → ℕ) : Type 0 where
     pub length-pass : m .jointed ≡ true → holds m jointLength ≡ true → Holds m f (yesNo jointLength)
-    pub length-fail : m .jointed ≡ true → holds m jointLength ≡ false → (k : ℕ) → g ≤ k → Holds m (times k f) (yesNo jointLength) → ⊥
+    pub length-fail : m .jointed ≡ true → holds m jointLength ≡ false → (k : ℕ) → g (yesNo jointLength) ≤ k → Holds m (times k f) (yesNo jointLength) → ⊥
     pub strength-sound : AllHold m (yesNoOf (m .kind)) → (c : Strength) → Among c (strengthOf (m .kind)) → omitted m (strength c) ≡ false → StrengthSound g c
     pub count-above : m .jointed ≡ true → (n : ℕ) → CountFor m (f .N) n → n ≤ countOf m
-    pub count-below : m .jointed ≡ true → (k : ℕ) → g ≤ k → (n : ℕ) → CountFor m (scaled k (f .N)) n → countOf m ≤ n
+    pub count-below : m .jointed ≡ true → (k : ℕ) → g (yesNo jointLength) ≤ k → (n : ℕ) → CountFor m (scaled k (f .N)) n → countOf m ≤ n
 
   -- layout and slenderness round nothing
   pub exact : (c : YesNo) → LayoutOrSlenderness (yesNo c) → holds m c ≡ true ↔ Holds m f (yesNo c)
@@ -69,7 +69,7 @@ module _ (m : Member) (f : Forces) where
   exact slendernessB low = slenderness-iff (limitOf m) (m .lb) (m .width)
   exact jointLength low = absurd (omega arith)
 
-  module _ {g : ℕ} (s : ChecksSound g) (k : ℕ) (big : g ≤ k) where
+  module _ {g : Check → ℕ} (s : ChecksSound g) (k : Check → ℕ) (big : (c : Check) → g c ≤ k c) where
     -- a yes-or-no check that holds, holds unrounded
     yes-no-holds : (c : YesNo) → omitted m (yesNo c) ≡ false → holds m c ≡ true → Holds m f (yesNo c)
     yes-no-holds layout kept e = exact layout (lit≤ tt) .0 e
@@ -100,13 +100,13 @@ module _ (m : Member) (f : Forces) where
       none-first (yesNo d) low first = absurd (first .fails (exact d low .0 (all d (first .has .of-kind) (first .has .kept))))
       none-first (strength d) low first = absurd (omega (arith, strength-high d))
 
-      fail-strength : (d : Check) → Has m d → FailsOn byUse d → Holds m (times k f) d → ⊥
+      fail-strength : (d : Check) → Has m d → FailsOn byUse d → Holds m (times (k d) f) d → ⊥
       fail-strength (yesNo d) has on h =
           let e : strengthNumber c ≡ yesNoNumber d = on .names in absurd (omega (arith, strength-high c, yes-no-low d))
       fail-strength (strength d) has on h =
           let e : d ≡ c =
           rising-same strengthNumber (strengthOf (m .kind)) (strength-rising (m .kind)) d c (has .of-kind) (governed .among) (sym (on .names)) in
-          s .strength-sound all d (has .of-kind) (has .kept) .fail k big (rw e (above (on .fails))) h
+          s .strength-sound all d (has .of-kind) (has .kept) .fail (k (strength d)) (big (strength d)) (rw e (above (on .fails))) h
 
       demand-strength : Demand3At m f byUse k
       demand-strength =
@@ -116,7 +116,7 @@ module _ (m : Member) (f : Forces) where
             first = λ d low. (none-named d low, none-first d low);
             fail = λ d has high on. fail-strength d has on;
             count-above = λ j hold. s .count-above j;
-            count-below = λ j hold. s .count-below j k big;
+            count-below = λ j hold. s .count-below j (k (yesNo jointLength)) (big (yesNo jointLength));
           }
 
     -- the verdict by the yes-or-no check c, the first to fail
@@ -160,13 +160,13 @@ module _ (m : Member) (f : Forces) where
       first-is-named (strength d) low first = absurd (omega (arith, strength-high d))
 
       -- joint length is the one check that fails by its rounding
-      fail-length : (d : YesNo) → (LayoutOrSlenderness (yesNo d) → ⊥) → omitted m (yesNo d) ≡ false → holds m d ≡ false → Holds m (times k f) (yesNo d) → ⊥
+      fail-length : (d : YesNo) → (LayoutOrSlenderness (yesNo d) → ⊥) → omitted m (yesNo d) ≡ false → holds m d ≡ false → Holds m (times (k (yesNo d)) f) (yesNo d) → ⊥
       fail-length layout high kept e h = high (lit≤ tt)
       fail-length slendernessH high kept e h = high (lit≤ tt)
       fail-length slendernessB high kept e h = high (lit≤ tt)
-      fail-length jointLength high kept e h = s .length-fail (not-false _ kept) e k big h
+      fail-length jointLength high kept e h = s .length-fail (not-false _ kept) e (k (yesNo jointLength)) (big (yesNo jointLength)) h
 
-      fail-yes-no : (d : Check) → Has m d → (LayoutOrSlenderness d → ⊥) → FailsOn onCheck d → Holds m (times k f) d → ⊥
+      fail-yes-no : (d : Check) → Has m d → (LayoutOrSlenderness d → ⊥) → FailsOn onCheck d → Holds m (times (k d) f) d → ⊥
       fail-yes-no (yesNo d) has high on h =
           let e : c ≡ d = same-yes-no c d (on .names) in fail-length d high (has .kept) (rw (← e) (fails .fails)) h
       fail-yes-no (strength d) has high on h =
@@ -190,7 +190,7 @@ module _ (m : Member) (f : Forces) where
             first = λ d low. (named-is-first d low, first-is-named d low);
             fail = fail-yes-no;
             count-above = λ j hold n least. counted (λ count. n ≤ count) c (not-exact hold) (s .count-above j n least);
-            count-below = λ j hold n least. counted (λ count. count ≤ n) c (not-exact hold) (s .count-below j k big n least);
+            count-below = λ j hold n least. counted (λ count. count ≤ n) c (not-exact hold) (s .count-below j (k (yesNo jointLength)) (big (yesNo jointLength)) n least);
           }
 
     -- demand 3 of the verdict

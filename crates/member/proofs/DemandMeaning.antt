@@ -10,7 +10,7 @@ use lib.Dec.{leb}
 use Rattle.rounding.specs.Fraction.{scaled}
 use Rattle.sp64.proofs.Denominators.{scaled-real}
 use Rattle.sp64.proofs.JointLaws.{count-exists}
-use Rattle.member.specs.Checks.{Check, YesNo, yesNo, strength, number, yesNoOf, Has}
+use Rattle.member.specs.Checks.{Check, YesNo, yesNo, strength, jointLength, number, yesNoOf, Has}
 use Rattle.member.specs.Demand3.{FailsOn, LayoutOrSlenderness, FirstToFail, CountFor, Demand3At}
 use Rattle.member.specs.Ranges.{RangesOf}
 use Rattle.member.specs.Unrounded.{Forces, times, Holds}
@@ -21,9 +21,9 @@ use Rattle.member.proofs.VerdictLaws.{clash, yesNoNumber, yes-no-rising
 use Rattle.member.proofs.DemandLaws.{strength-high, exact}
 use Rattle.member.proofs.RowChecks.{joint-row}
 
--- the forces at which a failed check must fail: those of the row for layout and slenderness, k thousandths of them for the others
-abbrev pub failForces : ℕ → Forces → Check → Forces
-failForces k f c = cond (leb (number c) 3) f (times k f)
+-- the forces at which a failed check must fail: those of the row for layout and slenderness, k c thousandths of them for another check c
+abbrev pub failForces : (Check → ℕ) → Forces → Check → Forces
+failForces k f c = cond (leb (number c) 3) f (times (k c) f)
 
 module _ (m : Member) (f : Forces) where
   -- where layout or slenderness fails, one of the checks is the first to fail
@@ -59,12 +59,12 @@ module _ (m : Member) (f : Forces) where
           before (strength e) has lt = absurd (omega (arith, low-d, strength-high e))
 
   -- either the row passes and all its checks hold unrounded, or it fails on c, and c fails unrounded at the forces for it
-  abbrev pub PassOrFail : Verdict → ℕ → Check → Type 0
+  abbrev pub PassOrFail : Verdict → (Check → ℕ) → Check → Type 0
   PassOrFail v k c =
       ((v .passes ≡ true) × ((d : Check) → Has m d → Holds m f d)) ⊎ (FailsOn v c × (Holds m (failForces k f c) c → ⊥))
 
   -- v is any verdict that keeps demand 3
-  module _ (v : Verdict) (k : ℕ) (demand : Demand3At m f v k) where
+  module _ (v : Verdict) (k : Check → ℕ) (demand : Demand3At m f v k) where
     -- where a check of layout or slenderness fails unrounded, the row fails on one of them
     pub one-fails : (c : Check) → LayoutOrSlenderness c → Has m c → (Holds m f c → ⊥) → (d : Check) × LayoutOrSlenderness d × FailsOn v d
     one-fails c low has fails =
@@ -75,11 +75,11 @@ module _ (m : Member) (f : Forces) where
     pub fails-on-one : (c : Check) → LayoutOrSlenderness c → FailsOn v c → Has m c × (Holds m f c → ⊥)
     fails-on-one c low on = let first = demand .first c low .0 on in (first .has, first .fails)
 
-    -- a failed check fails unrounded, at the forces of the row or at k thousandths of them
+    -- a failed check fails unrounded, at the forces of the row or at those times its factor
     pub failed : (c : Check) → Has m c → FailsOn v c → Holds m (failForces k f c) c → ⊥
     failed c has on = by (leb (number c) 3) refl
       where
-        by : (t : Bool) → leb (number c) 3 ≡ t → Holds m (cond t f (times k f)) c → ⊥
+        by : (t : Bool) → leb (number c) 3 ≡ t → Holds m (cond t f (times (k c) f)) c → ⊥
         by true e = fails-on-one c (leb-true _ _ e) on .1
         by false e = demand .fail c has (λ low. omega (arith, leb-false (number c) 3 e)) on
 
@@ -107,13 +107,13 @@ module _ (m : Member) (f : Forces) where
 
     -- the two least counts between which demand 3 puts a joint's count exist
     pub count-between : RangesOf (m .kind) m → 0 < f .N .den → m .jointed ≡ true → ((c : Check) → LayoutOrSlenderness c → Has m c → Holds m f c)
-        → (n : ℕ) × (n′ : ℕ) × CountFor m (f .N) n × CountFor m (scaled k (f .N)) n′ × (n ≤ v .count) × (v .count ≤ n′)
+        → (n : ℕ) × (n′ : ℕ) × CountFor m (f .N) n × CountFor m (scaled (k (yesNo jointLength)) (f .N)) n′ × (n ≤ v .count) × (v .count ≤ n′)
     count-between ranges real e laid =
         let j = joint-row m (m .kind) ranges e in
         let low = count-exists (f .N) real (j .0 .section .width) (j .1) (j .0 .material) in
-        let high = count-exists (scaled k (f .N)) (scaled-real k (f .N) real) (j .0 .section .width) (j .1) (j .0 .material) in
+        let high = count-exists (scaled (k (yesNo jointLength)) (f .N)) (scaled-real (k (yesNo jointLength)) (f .N) real) (j .0 .section .width) (j .1) (j .0 .material) in
         (_, _, low, high, demand .count-above e laid _ low, demand .count-below e laid _ high)
 
   -- two verdicts that keep demand 3 of one row agree on whether and where layout or slenderness fails
-  pub same-verdict-side : (v w : Verdict) (k l : ℕ) → Demand3At m f v k → Demand3At m f w l → (c : Check) → LayoutOrSlenderness c → FailsOn v c ↔ FailsOn w c
+  pub same-verdict-side : (v w : Verdict) (k l : Check → ℕ) → Demand3At m f v k → Demand3At m f w l → (c : Check) → LayoutOrSlenderness c → FailsOn v c ↔ FailsOn w c
   same-verdict-side v w k l dv dw c low = (λ on. dw .first c low .1 (dv .first c low .0 on), λ on. dv .first c low .1 (dw .first c low .0 on))

@@ -12,7 +12,7 @@ use Rattle.cells.specs.Refusal.{gives}
 use Rattle.sp64.specs.Joint.{ExactJointLength}
 use Rattle.member.specs.Acceptance.{lowestThat, acceptKind, accept}
 use Rattle.member.specs.Checks.{Check, yesNo, strength, Has, layout, slendernessH, slendernessB, jointLength, bending, compressionBending}
-use Rattle.member.specs.Demand3.{leastFactor, LayoutOrSlenderness, CountFor, Demand3}
+use Rattle.member.specs.Demand3.{demandFactor, leastFactor, LayoutOrSlenderness, CountFor, Demand3}
 use Rattle.member.specs.Member.{valuesOf, memberOf}
 use Rattle.member.specs.Unrounded.{forcesOf, Holds}
 use Rattle.member.specs.Verdict.{governing, judgeBy, verdict}
@@ -33,7 +33,7 @@ pub row-A-accepted : accept rowA ≡ gives memberA
 unfolding acceptKind lowestThat lowest
 row-A-accepted = refl
 
-pub row-A-failed : (utilisation count : ℕ) → Demand3 memberA (says false 7 utilisation count) 1005 → ⊥
+pub row-A-failed : (utilisation count : ℕ) → Demand3 memberA (says false 7 utilisation count) demandFactor → ⊥
 row-A-failed u n d =
     d .fail (strength bending) (record { of-kind = inl refl; kept = refl }) (λ low. absurd (omega arith)) (record { fails = refl; names = refl }) (lit≤ tt)
 
@@ -48,7 +48,7 @@ row-F-accepted = refl
 too-long : ExactJointLength (whole 100000) (memberF .width) (memberF .joint) (memberF .material) → ⊥
 too-long x = omega (arith, x .least-count .holds .bending, x .least-columns .holds, x .fits)
 
-pub row-F-passed : (check utilisation count : ℕ) → Demand3 memberF (says true check utilisation count) 1005 → ⊥
+pub row-F-passed : (check utilisation count : ℕ) → Demand3 memberF (says true check utilisation count) demandFactor → ⊥
 row-F-passed c u n d = too-long (d .pass refl (yesNo jointLength) (record { of-kind = inr (inr (inr (inl refl))); kept = refl }))
 
 -- Row E with another count.
@@ -67,20 +67,20 @@ kept-E (yesNo slendernessB) low has = lit≤ tt
 kept-E (yesNo jointLength) low has = absurd (omega arith)
 kept-E (strength c) low has = absurd (omega (arith, strength-high c))
 
--- it needs 25 dowels unrounded, and still 25 with N times 1.005
+-- it needs 25 dowels unrounded, and still 25 with N times the factor of check 4
 count-E : CountFor memberE (whole 100000) 25
 count-E = record { holds = record { core = lit≤ tt; side = lit≤ tt; bending = lit≤ tt }; least = λ j s. omega (arith, s .bending) }
 
-count-E-scaled : CountFor memberE (scaled 1005 (whole 100000)) 25
+count-E-scaled : CountFor memberE (scaled (demandFactor (yesNo jointLength)) (whole 100000)) 25
 count-E-scaled = record { holds = record { core = lit≤ tt; side = lit≤ tt; bending = lit≤ tt }; least = λ j s. omega (arith, s .bending) }
 
-pub row-E-with-24 : (passes : Bool) (check utilisation : ℕ) → Demand3 memberE (says passes check utilisation 24) 1005 → ⊥
+pub row-E-with-24 : (passes : Bool) (check utilisation : ℕ) → Demand3 memberE (says passes check utilisation 24) demandFactor → ⊥
 row-E-with-24 p c u d = let le : 25 ≤ 24 = d .count-above refl kept-E 25 count-E in absurd (omega arith)
 
-pub row-E-with-26 : (passes : Bool) (check utilisation : ℕ) → Demand3 memberE (says passes check utilisation 26) 1005 → ⊥
+pub row-E-with-26 : (passes : Bool) (check utilisation : ℕ) → Demand3 memberE (says passes check utilisation 26) demandFactor → ⊥
 row-E-with-26 p c u d = let le : 26 ≤ 25 = d .count-below refl kept-E 25 count-E-scaled in absurd (omega arith)
 
--- A row whose verdict by the rules breaks demand 3 at a thousandth less than the least factor.
+-- A row whose verdict by the rules breaks demand 3 at a thousandth less than the least factors.
 abbrev edgeMember : Member
 edgeMember = memberOf CompressionBending false (valuesOf edgeRow)
 
@@ -88,7 +88,7 @@ pub edge-accepted : accept edgeRow ≡ gives edgeMember
 unfolding acceptKind lowestThat lowest
 edge-accepted = refl
 
-pub edge-breaks-less : Demand3 edgeMember (verdict edgeMember) (leastFactor - 1) → ⊥
+pub edge-breaks-less : Demand3 edgeMember (verdict edgeMember) (λ (c : Check). leastFactor c - 1) → ⊥
 unfolding judgeBy governing
 edge-breaks-less d =
     d .fail (strength compressionBending) (record { of-kind = inr (inr (inr (inl refl))); kept = refl }) (λ low. absurd (omega arith))

@@ -15,6 +15,7 @@ use Rattle.sp64.proofs.Checks.{tension-sound, net-tension-sound, side-piece-sou
 use Rattle.sp64.proofs.JointLaws.{count-above, count-below, joint-length-pass, joint-length-fail}
 use Rattle.sp64.proofs.YesNoChecks.{layout-iff, slenderness-iff}
 use Rattle.member.specs.Checks.{Strength, yesNo, strength, yesNoOf, strengthOf, omitted, Among, layout, slendernessH, slendernessB, netTension, shear, bucklingH, bucklingB}
+use Rattle.member.specs.Demand3.{leastFactor}
 use Rattle.member.specs.Member.{limitOf}
 use Rattle.member.specs.Ranges.{Sized, Braced, RangesOf}
 use Rattle.member.specs.Unrounded.{Forces, forcesOf}
@@ -27,22 +28,22 @@ use Rattle.member.proofs.DemandLaws.{StrengthSound, ChecksSound}
 
 module _ (m : Member) (f : Forces) where
   -- check 5, where a joint keeps its layout
-  net-tension : Sized m → RoundsUpTo (m .force) (f .N) → (m .jointed ≡ true → JointRanges (m .joint) × Layout (m .height) (m .joint)) → StrengthSound m f 1003 netTension
+  net-tension : Sized m → RoundsUpTo (m .force) (f .N) → (m .jointed ≡ true → JointRanges (m .joint) × Layout (m .height) (m .joint)) → StrengthSound m f leastFactor netTension
   net-tension sized up joint = by (m .jointed) refl
     where
-      by : (t : Bool) → m .jointed ≡ t → StrengthSound m f 1003 netTension
+      by : (t : Bool) → m .jointed ≡ t → StrengthSound m f leastFactor netTension
       by true e = let j = joint e in rw e (net-tension-sound (sized .material) (sized .section) up (j .0) (j .1))
       by false e = rw e (tension-sound (sized .material) (sized .section) up)
 
   -- kind 1: checks 5 and 6
   tension-row : RangesOf Tension m → RoundsUpTo (m .force) (f .N) → AllHold m (yesNoOf Tension)
-      → (c : Strength) → Among c (strengthOf Tension) → omitted m (strength c) ≡ false → StrengthSound m f 1003 c
+      → (c : Strength) → Among c (strengthOf Tension) → omitted m (strength c) ≡ false → StrengthSound m f leastFactor c
   tension-row ranges up all = by
     where
       laid : m .jointed ≡ true → JointRanges (m .joint) × Layout (m .height) (m .joint)
       laid e = (ranges .3 e, layout-iff (m .height) (m .joint) .0 (all layout (inl refl) (rw e refl)))
 
-      by : (c : Strength) → Among c (strengthOf Tension) → omitted m (strength c) ≡ false → StrengthSound m f 1003 c
+      by : (c : Strength) → Among c (strengthOf Tension) → omitted m (strength c) ≡ false → StrengthSound m f leastFactor c
       by c (inl e) kept = rw e (net-tension (ranges .0) up laid)
       by c (inr (inl e)) kept =
           let j = laid (not-false _ (rw e at kept)) in
@@ -50,21 +51,21 @@ module _ (m : Member) (f : Forces) where
       by c (inr (inr a)) kept = absurd a
 
   -- kind 2: checks 7 and 8
-  bending-row : Sized m → RoundsUpTo (m .moment) (f .M) → RoundsUpTo (m .shear) (f .Q) → (c : Strength) → Among c (strengthOf Bending) → StrengthSound m f 1003 c
+  bending-row : Sized m → RoundsUpTo (m .moment) (f .M) → RoundsUpTo (m .shear) (f .Q) → (c : Strength) → Among c (strengthOf Bending) → StrengthSound m f leastFactor c
   bending-row sized upM upQ c (inl e) = rw e (bending-sound (sized .material) (sized .section) upM)
   bending-row sized upM upQ c (inr (inl e)) = rw e (shear-sound (sized .material) (sized .section) upQ)
   bending-row sized upM upQ c (inr (inr a)) = absurd a
 
   -- checks 9 and 10, where slenderness holds
   module _ (sized : Sized m) (braced : Braced m) (up : RoundsUpTo (m .force) (f .N)) where
-    buckling-height : holds m slendernessH ≡ true → StrengthSound m f 1003 bucklingH
+    buckling-height : holds m slendernessH ≡ true → StrengthSound m f leastFactor bucklingH
     buckling-height e =
         buckling-sound (sized .material) (sized .section) up (braced .lh)
         (in-wide 20 2500 (lit≤ tt) (lit≤ tt) (sized .section .height))
         (braced .limit)
         (slenderness-iff (limitOf m) (m .lh) (m .height) .0 e)
 
-    buckling-width : holds m slendernessB ≡ true → StrengthSound m f 1003 bucklingB
+    buckling-width : holds m slendernessB ≡ true → StrengthSound m f leastFactor bucklingB
     buckling-width e =
         buckling-sound (sized .material) (sized .section) up (braced .lb)
         (in-wide 20 2500 (lit≤ tt) (lit≤ tt) (sized .section .width))
@@ -77,7 +78,7 @@ not-row-4 m low = ne-eqb (m .table16) 4 (λ e. omega arith)
 
 module _ (m : Member) where
   -- kind 3: checks 9 and 10
-  compression-row : RangesOf Compression m → AllHold m (yesNoOf Compression) → (c : Strength) → Among c (strengthOf Compression) → StrengthSound m (forcesOf m) 1003 c
+  compression-row : RangesOf Compression m → AllHold m (yesNoOf Compression) → (c : Strength) → Among c (strengthOf Compression) → StrengthSound m (forcesOf m) leastFactor c
   compression-row ranges all c (inl e) =
       rw e (buckling-height m (forcesOf m) (ranges .0) (ranges .1) (whole-rounds (m .force)) (all slendernessH (inl refl) refl))
   compression-row ranges all c (inr (inl e)) =
@@ -85,7 +86,7 @@ module _ (m : Member) where
   compression-row ranges all c (inr (inr a)) = absurd a
 
   -- kind 4: checks 8 to 11
-  compression-bending-row : RangesOf CompressionBending m → AllHold m (yesNoOf CompressionBending) → (c : Strength) → Among c (strengthOf CompressionBending) → StrengthSound m (forcesOf m) 1003 c
+  compression-bending-row : RangesOf CompressionBending m → AllHold m (yesNoOf CompressionBending) → (c : Strength) → Among c (strengthOf CompressionBending) → StrengthSound m (forcesOf m) leastFactor c
   compression-bending-row ranges all c (inl e) = rw e (shear-sound (ranges .0 .material) (ranges .0 .section) (whole-rounds (m .shear)))
   compression-bending-row ranges all c (inr (inl e)) =
       rw e (buckling-height m (forcesOf m) (ranges .0) (ranges .1) (whole-rounds (m .force)) (all slendernessH (inl refl) refl))
@@ -99,12 +100,12 @@ module _ (m : Member) where
   compression-bending-row ranges all c (inr (inr (inr (inr a)))) = absurd a
 
   -- kind 5: checks 8 and 11
-  tension-bending-row : RangesOf TensionBending m → (c : Strength) → Among c (strengthOf TensionBending) → StrengthSound m (forcesOf m) 1003 c
+  tension-bending-row : RangesOf TensionBending m → (c : Strength) → Among c (strengthOf TensionBending) → StrengthSound m (forcesOf m) leastFactor c
   tension-bending-row ranges c (inl e) = rw e (shear-sound (ranges .0 .material) (ranges .0 .section) (whole-rounds (m .shear)))
   tension-bending-row ranges c (inr (inl e)) = rw e (tension-bending-sound (ranges .0 .material) (ranges .0 .section) (m .force) (m .moment))
   tension-bending-row ranges c (inr (inr a)) = absurd a
 
-  strength-row : (kind : Kind) → RangesOf kind m → AllHold m (yesNoOf kind) → (c : Strength) → Among c (strengthOf kind) → omitted m (strength c) ≡ false → StrengthSound m (forcesOf m) 1003 c
+  strength-row : (kind : Kind) → RangesOf kind m → AllHold m (yesNoOf kind) → (c : Strength) → Among c (strengthOf kind) → omitted m (strength c) ≡ false → StrengthSound m (forcesOf m) leastFactor c
   strength-row Tension ranges all c a kept = tension-row m (forcesOf m) ranges (whole-rounds (m .force)) all c a kept
   strength-row Bending ranges all c a kept = bending-row m (forcesOf m) (ranges .0) (whole-rounds (m .moment)) (whole-rounds (m .shear)) c a
   strength-row Compression ranges all c a kept = compression-row ranges all c a
@@ -120,7 +121,7 @@ module _ (m : Member) where
   joint-row TensionBending ranges e = absurd (clash e (ranges .2))
 
   -- the checks of a row at the forces of its cells
-  pub checks-sound : RangesOf (m .kind) m → ChecksSound m (forcesOf m) 1003
+  pub checks-sound : RangesOf (m .kind) m → ChecksSound m (forcesOf m) leastFactor
   checks-sound ranges =
       let joint = joint-row (m .kind) ranges in
       record {
@@ -132,7 +133,7 @@ module _ (m : Member) where
       }
 
   -- checks 7 and 8 of a row of kind 2 at fractions that round up to its cells
-  pub bending-checks-sound : m .kind ≡ Bending → RangesOf (m .kind) m → (f : Forces) → RoundsUpTo (m .moment) (f .M) → RoundsUpTo (m .shear) (f .Q) → ChecksSound m f 1003
+  pub bending-checks-sound : m .kind ≡ Bending → RangesOf (m .kind) m → (f : Forces) → RoundsUpTo (m .moment) (f .M) → RoundsUpTo (m .shear) (f .Q) → ChecksSound m f leastFactor
   bending-checks-sound e ranges f upM upQ =
       let here = subst (λ (kind : Kind). RangesOf kind m) e ranges in
       record {

@@ -10,16 +10,24 @@ use Rattle.cells.specs.declared.row.Cell.{Cell}
 use Rattle.rounding.specs.Fraction.{Fraction, scaled}
 use Rattle.sp64.specs.Joint.{LeastCount}
 use Rattle.member.specs.Acceptance.{accept}
-use Rattle.member.specs.Checks.{Check, number, Has}
+use Rattle.member.specs.Checks.{Check, yesNo, jointLength, number, Has}
 use Rattle.member.specs.Unrounded.{Forces, forcesOf, times, Holds}
 use Rattle.member.specs.declared.member.Member.{Member}
 use Rattle.member.specs.declared.verdict.Answer.{Answer}
 use Rattle.member.specs.declared.verdict.Answer.the-variants.{Judged}
 use Rattle.member.specs.declared.verdict.Verdict.{Verdict}
 
--- the least factor of the forces, in thousandths, at which the verdict on every row keeps demand 3
-abbrev pub leastFactor : ℕ
-leastFactor = 1003
+-- the factor of N, M and Q, in thousandths, with which a check that failed must fail unrounded
+abbrev pub demandFactor : Check → ℕ
+demandFactor c = 1005
+
+-- the least such factors that the verdict on every row keeps
+abbrev pub leastFactor : Check → ℕ
+leastFactor c = 1003
+
+-- no check's factor is below its least
+abbrev pub FromLeast : (Check → ℕ) → Type 0
+FromLeast k = (c : Check) → leastFactor c ≤ k c
 
 -- the verdict is a fail and names check c
 pub record FailsOn (v : Verdict) (c : Check) : Type 0 where
@@ -40,25 +48,25 @@ pub record FirstToFail (m : Member) (f : Forces) (c : Check) : Type 0 where
 abbrev pub CountFor : Member → Fraction → ℕ → Type 0
 CountFor m N = LeastCount N (m .width) (m .joint) (m .material)
 
--- demand 3 for forces f and a factor of k thousandths
-pub record Demand3At (m : Member) (f : Forces) (v : Verdict) (k : ℕ) : Type 0 where
+-- demand 3 for forces f and a factor of k c thousandths for each check c
+pub record Demand3At (m : Member) (f : Forces) (v : Verdict) (k : Check → ℕ) : Type 0 where
   -- the verdict names a check that the row has
   pub named : (c : Check) × Has m c × (v .check ≡ number c)
   -- a pass means that every check the row has holds with nothing rounded
   pub pass : v .passes ≡ true → (c : Check) → Has m c → Holds m f c
   -- a row fails on layout or slenderness exactly when one of these fails unrounded, and the first such is named
   pub first : (c : Check) → LayoutOrSlenderness c → FailsOn v c ↔ FirstToFail m f c
-  -- a fail on strength or joint length means that the same check fails unrounded with N, M and Q each times k thousandths
-  pub fail : (c : Check) → Has m c → (LayoutOrSlenderness c → ⊥) → FailsOn v c → Holds m (times k f) c → ⊥
+  -- a fail on strength or joint length means that the same check fails unrounded with N, M and Q each times k c thousandths
+  pub fail : (c : Check) → Has m c → (LayoutOrSlenderness c → ⊥) → FailsOn v c → Holds m (times (k c) f) c → ⊥
   -- where layout and slenderness hold, a joint's count is no less than the unrounded least count for N
   pub count-above : m .jointed ≡ true → ((c : Check) → LayoutOrSlenderness c → Has m c → Holds m f c) → (n : ℕ) → CountFor m (f .N) n → n ≤ v .count
-  -- and no more than that for k thousandths of N
-  pub count-below : m .jointed ≡ true → ((c : Check) → LayoutOrSlenderness c → Has m c → Holds m f c) → (n : ℕ) → CountFor m (scaled k (f .N)) n → v .count ≤ n
+  -- and no more than that for N times the factor of check 4
+  pub count-below : m .jointed ≡ true → ((c : Check) → LayoutOrSlenderness c → Has m c → Holds m f c) → (n : ℕ) → CountFor m (scaled (k (yesNo jointLength)) (f .N)) n → v .count ≤ n
 
 -- demand 3 for the forces of the cells
-abbrev pub Demand3 : Member → Verdict → ℕ → Type 0
+abbrev pub Demand3 : Member → Verdict → (Check → ℕ) → Type 0
 Demand3 m = Demand3At m (forcesOf m)
 
 -- for every row that is not refused the answer is a verdict, and the verdict keeps demand 3
-abbrev pub KeepsDemand3 : List Cell → Answer → ℕ → Type 0
+abbrev pub KeepsDemand3 : List Cell → Answer → (Check → ℕ) → Type 0
 KeepsDemand3 cells answer k = (m : Member) → accept cells ≡ gives m → (v : Verdict) × (answer ≡ Judged v) × Demand3 m v k

@@ -16,12 +16,13 @@ use Rattle.cells.specs.declared.row.Cell.{Cell}
 use Rattle.worksheet.proofs.ReadRows.{row-as-read}
 use Rattle.member.specs.Acceptance.{accept}
 use Rattle.member.specs.Checks.{Check, Has, number}
+use Rattle.member.specs.Demand3.{demandFactor}
 use Rattle.member.specs.Unrounded.{forcesOf, Holds}
 use Rattle.member.specs.Verdict.{verdict, judged, checkRow}
 use Rattle.member.specs.declared.member.Member.{Member}
 use Rattle.member.specs.declared.verdict.Verdict.{Verdict}
 use Rattle.member.proofs.DemandMeaning.{failForces, failed}
-use Rattle.member.proofs.KeepsDemand3.{keeps-demand-3}
+use Rattle.member.proofs.KeepsDemand3.{demand-factor-kept, keeps-demand-3}
 use Rattle.packed.specs.Packing.{packed, packResult, packBuffer}
 use Rattle.packed.specs.Unpacking.{unpacked}
 use Rattle.packed.proofs.RoundTrip.{unpack-pack-buffer}
@@ -83,21 +84,21 @@ pub zero-means : (row : List ℕ) (room : ℕ) → checkReturns row room ≡ 0
     → (j : WasJudged row room) × ((c : Check) → Has (j .member) c → Holds (j .member) (forcesOf (j .member)) c)
 zero-means row room z =
     let j = was-judged row room (omega (arith, z)) in
-    let demand = keeps-demand-3 (j .cells) (j .member) (row-as-read row (j .cells) (j .read) .long) (j .accepted) 1005 (omega arith) in
+    let demand = keeps-demand-3 (j .cells) (j .member) (row-as-read row (j .cells) (j .read) .long) (j .accepted) demandFactor demand-factor-kept in
     (j, demand .pass (passed (verdict (j .member)) (sym (j .says) ∙ z)))
 
--- 1 returned: the named check is the row's and fails unrounded, with N, M and Q each times 1.005 unless it is of layout or slenderness
+-- 1 returned: the named check is the row's and fails unrounded, with N, M and Q each times its factor unless it is of layout or slenderness
 pub one-means : (row : List ℕ) (room : ℕ) → checkReturns row room ≡ 1
     → (j : WasJudged row room) × (c : Check) × Has (j .member) c × (verdict (j .member) .check ≡ number c)
-    × (Holds (j .member) (failForces 1005 (forcesOf (j .member)) c) c → ⊥)
+    × (Holds (j .member) (failForces demandFactor (forcesOf (j .member)) c) c → ⊥)
 one-means row room z =
     let j = was-judged row room (omega (arith, z)) in
     let m = j .member in
     let v = verdict m in
-    let demand = keeps-demand-3 (j .cells) m (row-as-read row (j .cells) (j .read) .long) (j .accepted) 1005 (omega arith) in
+    let demand = keeps-demand-3 (j .cells) m (row-as-read row (j .cells) (j .read) .long) (j .accepted) demandFactor demand-factor-kept in
     let named = demand .named in
     let fails = not-passed v (sym (j .says) ∙ z) in
-    (j, named .0, named .1, named .2, failed m (forcesOf m) v 1005 demand (named .0) (named .1) (record { fails = fails; names = named .2 }))
+    (j, named .0, named .1, named .2, failed m (forcesOf m) v demandFactor demand (named .0) (named .1) (record { fails = fails; names = named .2 }))
 
 -- a number from 1000: the answer is untouched
 pub check-untouched : (row answer : List ℕ) → 1000 ≤ checkReturns row (length answer) → checkLeaves row answer ≡ answer

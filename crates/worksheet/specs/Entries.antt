@@ -10,6 +10,7 @@ use Rattle.worksheet.specs.HostRow.{readHostRow}
 use Rattle.cells.specs.Refusal.{Result, gives, andThen, leaves, told}
 use Rattle.cells.specs.declared.row.Cell.{Cell}
 use Rattle.member.specs.Acceptance.{accept}
+use Rattle.member.specs.Checks.{Check}
 use Rattle.member.specs.Demand3.{Demand3}
 use Rattle.member.specs.Verdict.{checkRow}
 use Rattle.member.specs.declared.member.Member.{Member}
@@ -61,7 +62,7 @@ abbrev pub packLeaves : List ℕ → List ℕ → List ℕ
 packLeaves row buffer = leaves (readHostRow row) (λ (cells : List Cell). packBuffer cells buffer) buffer
 
 -- demand 3 of what checking returned and left: where the row is read, not refused, and the answer has 24 bytes, they are a verdict that keeps it
-abbrev pub HostKeepsDemand3 : List ℕ → List ℕ → ℕ → List ℕ → ℕ → Type 0
+abbrev pub HostKeepsDemand3 : List ℕ → List ℕ → ℕ → List ℕ → (Check → ℕ) → Type 0
 HostKeepsDemand3 row answer returned left k =
     (cells : List Cell) (m : Member)
     → readHostRow row ≡ gives cells
