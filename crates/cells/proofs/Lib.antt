@@ -4,3 +4,4 @@ pub mod RowLaws
 pub mod FloatLaws
 pub mod ResultLaws
 pub mod HostBytesMeaning
+pub mod GreatestLaws

@@ -2,3 +2,4 @@ pub mod Row
 pub mod Refusal
 pub mod Lowest
 pub mod HostBytes
+pub mod Greatest

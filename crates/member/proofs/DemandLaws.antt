@@ -11,7 +11,8 @@ use lib.Dec.{leb, eqb, lit≤}
 use Rattle.rounding.specs.Fraction.{scaled}
 use Rattle.rounding.proofs.Soundness.{Sound}
 use Rattle.sp64.proofs.YesNoChecks.{layout-iff, slenderness-iff}
-use Rattle.member.specs.Checks.{Check, YesNo, Strength, yesNo, strength, number, yesNoOf, strengthOf, omitted, Among, Has, layout, slendernessH, slendernessB, jointLength, netTension, sidePieces, bending, shear, bucklingH, bucklingB, compressionBending, tensionBending}
+use Rattle.cells.specs.Greatest.{Among}
+use Rattle.member.specs.Checks.{Check, YesNo, Strength, yesNo, strength, number, yesNoOf, strengthOf, omitted, Has, layout, slendernessH, slendernessB, jointLength, netTension, sidePieces, bending, shear, bucklingH, bucklingB, compressionBending, tensionBending}
 use Rattle.member.specs.Demand3.{FailsOn, LayoutOrSlenderness, FirstToFail, CountFor, Demand3At}
 use Rattle.member.specs.Member.{limitOf, countOf}
 use Rattle.member.specs.Unrounded.{Forces, times, Holds}

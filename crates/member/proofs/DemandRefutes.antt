@@ -7,6 +7,7 @@ use mathlib.Core.Logic.{inl, inr}
 use mathlib.Core.Bool.{Bool, true, false}
 use lib.Dec.{lit<, lit≤}
 use Rattle.rounding.specs.Fraction.{whole, scaled}
+use Rattle.cells.specs.Greatest.{greatest}
 use Rattle.cells.specs.Lowest.{lowest}
 use Rattle.cells.specs.Refusal.{gives}
 use Rattle.sp64.specs.Joint.{ExactJointLength}
@@ -15,7 +16,7 @@ use Rattle.member.specs.Checks.{Check, yesNo, strength, Has, layout, sle
 use Rattle.member.specs.Demand3.{demandFactor, leastFactor, LayoutOrSlenderness, CountFor, Demand3}
 use Rattle.member.specs.Member.{valuesOf, memberOf}
 use Rattle.member.specs.Unrounded.{forcesOf, Holds}
-use Rattle.member.specs.Verdict.{governing, judgeBy, verdict}
+use Rattle.member.specs.Verdict.{judgeBy, verdict}
 use Rattle.member.specs.WorkedRows.{rowA, rowE, rowF, edgeRow}
 use Rattle.member.specs.declared.kind.Kind.the-variants.{Tension, Bending, CompressionBending}
 use Rattle.member.specs.declared.member.Member.{Member}
@@ -89,7 +90,7 @@ unfolding acceptKind lowestThat lowest
 edge-accepted = refl
 
 pub edge-breaks-less : Demand3 edgeMember (verdict edgeMember) (λ (c : Check). leastFactor c - 1) → ⊥
-unfolding judgeBy governing
+unfolding judgeBy greatest
 edge-breaks-less d =
     d .fail (strength compressionBending) (record { of-kind = inr (inr (inr (inl refl))); kept = refl }) (λ low. absurd (omega arith))
     (record { fails = refl; names = refl })

@@ -12,7 +12,8 @@ use Rattle.cells.specs.declared.row.Cell.{Cell}
 use Rattle.rounding.proofs.Soundness.{utilisation-more}
 use Rattle.sp64.proofs.ForceLaws.{tension-bending-more, compression-bending-more, length-kept}
 use Rattle.member.specs.Acceptance.{accept}
-use Rattle.member.specs.Checks.{YesNo, Strength, yesNo, strength, yesNoOf, strengthOf, omitted, Among, layout, slendernessH, slendernessB, jointLength, netTension, sidePieces, bending, shear, bucklingH, bucklingB, compressionBending, tensionBending}
+use Rattle.cells.specs.Greatest.{Among}
+use Rattle.member.specs.Checks.{YesNo, Strength, yesNo, strength, yesNoOf, strengthOf, omitted, layout, slendernessH, slendernessB, jointLength, netTension, sidePieces, bending, shear, bucklingH, bucklingB, compressionBending, tensionBending}
 use Rattle.member.specs.Verdict.{holds, utilisationOf, verdict, judged, checkRow}
 use Rattle.member.specs.declared.member.Member.{Member}
 use Rattle.member.specs.declared.verdict.Verdict.{Verdict}

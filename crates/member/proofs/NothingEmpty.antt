@@ -25,7 +25,8 @@ use Rattle.sp64.specs.declared.tables.Stress.{Stress}
 use Rattle.sp64.specs.declared.tables.Stress.the-variants.{Compression as compressionStress, Tension as tensionStress, Shear as shearStress}
 use Rattle.sp64.proofs.Denominators.{Proper, scaled-real, net-height-kept, stocky-phi-kept, phi-proper, slender-phi-proper, core-crushing-proper, side-crushing-proper, dowel-bending-proper, strength-proper, tension-proper, net-tension-proper, side-piece-proper, compression-proper, bending-proper, shear-proper, buckling-proper, euler-proper, share-real, remainder-proper, moment-real, combined-real}
 use Rattle.member.specs.Acceptance.{accept}
-use Rattle.member.specs.Checks.{Check, YesNo, Strength, yesNo, strength, yesNoOf, strengthOf, omitted, Among, Has, layout, slendernessH, slendernessB, netTension, sidePieces, bending, shear, bucklingH, bucklingB, compressionBending, tensionBending}
+use Rattle.cells.specs.Greatest.{Among}
+use Rattle.member.specs.Checks.{Check, YesNo, Strength, yesNo, strength, yesNoOf, strengthOf, omitted, Has, layout, slendernessH, slendernessB, netTension, sidePieces, bending, shear, bucklingH, bucklingB, compressionBending, tensionBending}
 use Rattle.member.specs.Demand3.{LayoutOrSlenderness}
 use Rattle.member.specs.Member.{limitOf, exactNRof, exactMRof}
 use Rattle.member.specs.Ranges.{Sized, Braced, RangesOf}

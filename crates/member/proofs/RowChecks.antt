@@ -14,7 +14,8 @@ use Rattle.sp64.specs.Joint.{JointRanges, Layout}
 use Rattle.sp64.proofs.Checks.{tension-sound, net-tension-sound, side-piece-sound, bending-sound, shear-sound, buckling-sound, compression-bending-sound, tension-bending-sound}
 use Rattle.sp64.proofs.JointLaws.{count-above, count-below, joint-length-pass, joint-length-fail}
 use Rattle.sp64.proofs.YesNoChecks.{layout-iff, slenderness-iff}
-use Rattle.member.specs.Checks.{Strength, yesNo, strength, yesNoOf, strengthOf, omitted, Among, layout, slendernessH, slendernessB, netTension, shear, bucklingH, bucklingB}
+use Rattle.cells.specs.Greatest.{Among}
+use Rattle.member.specs.Checks.{Strength, yesNo, strength, yesNoOf, strengthOf, omitted, layout, slendernessH, slendernessB, netTension, shear, bucklingH, bucklingB}
 use Rattle.member.specs.Demand3.{leastFactor}
 use Rattle.member.specs.Member.{limitOf}
 use Rattle.member.specs.Ranges.{Sized, Braced, RangesOf}

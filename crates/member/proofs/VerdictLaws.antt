@@ -1,16 +1,18 @@
 -- What a verdict names: the first yes-or-no check that fails or, where all hold, the check of greatest utilisation, the lowest number among equals.
 -- Assumes nothing.
 use Prim.Native.Nat.{ℕ, _≤_, _<_}
+use native.Mathlib.Nat.{le-refl, le-of-lt}
 use native.Mathlib.Omega.{arith}
 use mathlib.Core.Path.{_≡_, refl, sym, ap, _∙_}
 use mathlib.Core.Logic.{_⊎_, inl, inr}
 use mathlib.Core.Bool.{Bool, true, false, _||_, true≢false}
-use mathlib.Core.List.{List, [], _∷_}
-use borrow.Author.Tests.{leb-true, leb-false}
-use lib.Dec.{leb, leb·zero}
-use Rattle.member.specs.Checks.{YesNo, Strength, yesNo, strength, number, yesNoOf, strengthOf, omitted, Among, netTension, bending, shear, bucklingH}
+use mathlib.Core.List.{List, [], _∷_, _++_}
+use borrow.Author.Tests.{not-true}
+use Rattle.cells.specs.Greatest.{Among}
+use Rattle.cells.proofs.GreatestLaws.{FirstGreatest, Found, among-cases, greatest-among, greatest-above, greatest-meaning}
+use Rattle.member.specs.Checks.{YesNo, Strength, yesNo, strength, number, yesNoOf, strengthOf, omitted, netTension, bending, shear, bucklingH}
 use Rattle.member.specs.Member.{countOf}
-use Rattle.member.specs.Verdict.{holds, utilisationOf, used, governing, byStrength, countOnFail, failedOn, judgeBy}
+use Rattle.member.specs.Verdict.{holds, utilisationOf, used, governedBy, hasStrength, governing, byStrength, countOnFail, failedOn, judgeBy}
 use Rattle.member.specs.declared.kind.Kind.{Kind}
 use Rattle.member.specs.declared.kind.Kind.the-variants.{Tension, Bending, Compression, CompressionBending, TensionBending}
 use Rattle.member.specs.declared.member.Member.{Member}
@@ -30,6 +32,11 @@ module _ {A : Type 0} (num : A → ℕ) where
   below-among x [] below y a = absurd a
   below-among x (z ∷ list) below y (inl e) = rw e (below .0)
   below-among x (z ∷ list) below y (inr a) = below-among x list (below .1) y a
+
+  -- past x the numbers are greater
+  pub rising-after : (front : List A) (x : A) (back : List A) → Rising (front ++ (x ∷ back)) → (y : A) → Among y back → num x < num y
+  rising-after [] x back rising y a = below-among x back (rising .0) y a
+  rising-after (z ∷ front) x back rising y a = rising-after front x back (rising .1) y a
 
   -- a number stands for one element
   pub rising-same : (list : List A) → Rising list → (x y : A) → Among x list → Among y list → num x ≡ num y → x ≡ y
@@ -125,77 +132,31 @@ module _ (m : Member) where
     pub greatest : (d : Strength) → Among d checks → omitted m (strength d) ≡ false → utilisationOf m d ≤ utilisationOf m c
     pub lowest : (d : Strength) → Among d checks → omitted m (strength d) ≡ false → utilisationOf m d ≡ utilisationOf m c → strengthNumber c ≤ strengthNumber d
 
-  abbrev AllOmitted : List Strength → Type 0
-  AllOmitted checks = (d : Strength) → Among d checks → omitted m (strength d) ≡ true
+  abbrev Chosen : List Strength → Strength → Type 0
+  Chosen = FirstGreatest (hasStrength m) (utilisationOf m)
 
-  abbrev Governed : List Strength → Type 0
-  Governed checks =
-      (AllOmitted checks × (governing m checks ≡ record { check = 0; utilisation = 0 }))
-      ⊎ ((c : Strength) × Governs checks c × (governing m checks ≡ used m c))
-
-  governing-meaning : (checks : List Strength) → Rising strengthNumber checks → Governed checks
-  unfolding governing
-  governing-meaning [] rising = inl (λ d a. absurd a, refl)
-  governing-meaning (x ∷ checks) rising = by (omitted m (strength x)) refl (governing-meaning checks (rising .1))
+  -- the first among equals has the lowest number, since the numbers rise
+  chosen-governs : (checks : List Strength) → Rising strengthNumber checks → (c : Strength) → Chosen checks c → Governs checks c
+  chosen-governs checks rising c f =
+      record {
+        among = greatest-among (hasStrength m) (utilisationOf m) checks c f;
+        kept = not-true _ (f .counted);
+        greatest = λ d a kept. greatest-above (hasStrength m) (utilisationOf m) checks c f d a (rw kept refl);
+        lowest = λ d a kept same. by d kept same (among-cases (f .front) c (f .back) d (rw (f .splits) at a));
+      }
     where
-      omit : omitted m (strength x) ≡ true → AllOmitted checks → AllOmitted (x ∷ checks)
-      omit o h d (inl e) = rw e o
-      omit o h d (inr a) = h d a
-
-      -- without x the governing check stays
-      greatest-without : omitted m (strength x) ≡ true → (c : Strength) → Governs checks c
-          → (d : Strength) → Among d (x ∷ checks) → omitted m (strength d) ≡ false → utilisationOf m d ≤ utilisationOf m c
-      greatest-without o c g d (inl e) kept = absurd (clash o (rw e at kept))
-      greatest-without o c g d (inr a) kept = g .greatest d a kept
-
-      lowest-without : omitted m (strength x) ≡ true → (c : Strength) → Governs checks c
-          → (d : Strength) → Among d (x ∷ checks) → omitted m (strength d) ≡ false → utilisationOf m d ≡ utilisationOf m c → strengthNumber c ≤ strengthNumber d
-      lowest-without o c g d (inl e) kept same = absurd (clash o (rw e at kept))
-      lowest-without o c g d (inr a) kept same = g .lowest d a kept same
-
-      -- x governs where no later check is above it
-      takes : omitted m (strength x) ≡ false → ((d : Strength) → Among d checks → omitted m (strength d) ≡ false → utilisationOf m d ≤ utilisationOf m x) → Governs (x ∷ checks) x
-      takes o most = record { among = inl refl; kept = o; greatest = greatest; lowest = low }
-        where
-          greatest : (d : Strength) → Among d (x ∷ checks) → omitted m (strength d) ≡ false → utilisationOf m d ≤ utilisationOf m x
-          greatest d (inl e) kept = let same : utilisationOf m d ≡ utilisationOf m x = ap (utilisationOf m) e in omega arith
-          greatest d (inr a) kept = most d a kept
-
-          low : (d : Strength) → Among d (x ∷ checks) → omitted m (strength d) ≡ false → utilisationOf m d ≡ utilisationOf m x → strengthNumber x ≤ strengthNumber d
-          low d (inl e) kept same = let equal : strengthNumber d ≡ strengthNumber x = ap strengthNumber e in omega arith
-          low d (inr a) kept same = omega (arith, below-among strengthNumber x checks (rising .0) d a)
-
-      -- x gives way to a later check above it
-      yields : (c : Strength) → Governs checks c → utilisationOf m x < utilisationOf m c → Governs (x ∷ checks) c
-      yields c g over = record { among = inr (g .among); kept = g .kept; greatest = greatest; lowest = low }
-        where
-          greatest : (d : Strength) → Among d (x ∷ checks) → omitted m (strength d) ≡ false → utilisationOf m d ≤ utilisationOf m c
-          greatest d (inl e) kept = let same : utilisationOf m d ≡ utilisationOf m x = ap (utilisationOf m) e in omega arith
-          greatest d (inr a) kept = g .greatest d a kept
-
-          low : (d : Strength) → Among d (x ∷ checks) → omitted m (strength d) ≡ false → utilisationOf m d ≡ utilisationOf m c → strengthNumber c ≤ strengthNumber d
-          low d (inl e) kept same = let equal : utilisationOf m d ≡ utilisationOf m x = ap (utilisationOf m) e in absurd (omega arith)
-          low d (inr a) kept same = g .lowest d a kept same
-
-      pick : omitted m (strength x) ≡ false → (c : Strength) → Governs checks c → governing m checks ≡ used m c
-          → (t : Bool) → leb (utilisationOf m c) (utilisationOf m x) ≡ t → Governed (x ∷ checks)
-      pick o c g e true t =
-          inr (x, takes o (λ d a kept. omega (arith, leb-true (utilisationOf m c) (utilisationOf m x) t, g .greatest d a kept)), rw (o, e, t) refl)
-      pick o c g e false t = inr (c, yields c g (leb-false _ _ t), rw (o, e, t) refl)
-
-      by : (t : Bool) → omitted m (strength x) ≡ t → Governed checks → Governed (x ∷ checks)
-      by true o (inl (h, e)) = inl (omit o h, rw o e)
-      by true o (inr (c, g, e)) =
-          inr (c, record { among = inr (g .among); kept = g .kept; greatest = greatest-without o c g; lowest = lowest-without o c g }, rw o e)
-      by false o (inl (h, e)) = inr (x, takes o (λ d a kept. absurd (clash (h d a) kept)), rw (o, e, leb·zero) refl)
-      by false o (inr (c, g, e)) = pick o c g e _ refl
+      by : (d : Strength) → omitted m (strength d) ≡ false → utilisationOf m d ≡ utilisationOf m c
+          → Among d (f .front) ⊎ ((d ≡ c) ⊎ Among d (f .back)) → strengthNumber c ≤ strengthNumber d
+      by d kept same (inl a) = let below : utilisationOf m d < utilisationOf m c = f .before d a (rw kept refl) in absurd (omega arith)
+      by d kept same (inr (inl e)) = rw e (le-refl (strengthNumber c))
+      by d kept same (inr (inr a)) = le-of-lt (rising-after strengthNumber (f .front) c (f .back) (rw (f .splits) at rising) d a)
 
   first-kept : (checks : List Strength) → Rising strengthNumber checks → (d : Strength) → Among d checks → omitted m (strength d) ≡ false → (c : Strength) × Governs checks c × (governing m checks ≡ used m c)
-  first-kept checks rising d a kept = by (governing-meaning checks rising)
+  first-kept checks rising d a kept = by (greatest-meaning (hasStrength m) (utilisationOf m) checks)
     where
-      by : Governed checks → (c : Strength) × Governs checks c × (governing m checks ≡ used m c)
-      by (inl (h, e)) = absurd (clash (h d a) kept)
-      by (inr r) = r
+      by : Found (hasStrength m) (utilisationOf m) checks → (c : Strength) × Governs checks c × (governing m checks ≡ used m c)
+      by (inl (skipped, e)) = absurd (clash (rw kept refl) (skipped d a))
+      by (inr (c, f, e)) = (c, chosen-governs checks rising c f, ap (governedBy m) e)
 
   -- every kind has a check that governs
   pub governs : (kind : Kind) → (c : Strength) × Governs (strengthOf kind) c × (governing m (strengthOf kind) ≡ used m c)

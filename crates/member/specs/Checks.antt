@@ -4,8 +4,8 @@ use Prim.Native.Nat.{ℕ}
 use mathlib.Core.Path.{_≡_}
 use mathlib.Core.Bool.{Bool, false, not}
 use mathlib.Core.List.{List, [], _∷_}
-use mathlib.Core.Logic.{_⊎_}
 use lib.Dec.{eqb}
+use Rattle.cells.specs.Greatest.{Among}
 use Rattle.member.specs.declared.kind.Kind.{Kind}
 use Rattle.member.specs.declared.kind.Kind.the-variants.{Tension, Bending, Compression, CompressionBending, TensionBending}
 use Rattle.member.specs.declared.member.Member.{Member}
@@ -78,11 +78,6 @@ omitted m (strength bucklingH) = false
 omitted m (strength bucklingB) = false
 omitted m (strength compressionBending) = false
 omitted m (strength tensionBending) = false
-
--- x is one of the list
-abbrev pub Among : {A : Type 0} → A → List A → Type 0
-Among x [] = ⊥
-Among x (y ∷ list) = (x ≡ y) ⊎ Among x list
 
 -- a check of the kind
 abbrev pub OfKind : Kind → Check → Type 0

@@ -1,8 +1,9 @@
 -- The verdict on a member.
 -- Assumes nothing.
 use Prim.Native.Nat.{ℕ}
-use mathlib.Core.Bool.{Bool, false, cond, _||_}
+use mathlib.Core.Bool.{Bool, false, not, cond, _||_}
 use mathlib.Core.List.{List, [], _∷_}
+use mathlib.Core.Option.{Option, none, some}
 use lib.Dec.{leb}
 use Rattle.rounding.specs.Utilisation.{utilisation}
 use Rattle.sp64.specs.Buckling.{bucklingPhi, bucklingCapacity, eulerCapacity}
@@ -12,6 +13,7 @@ use Rattle.sp64.specs.Joint.{layoutHolds, jointLengthHolds}
 use Rattle.sp64.specs.Slenderness.{slendernessHolds}
 use Rattle.sp64.specs.Strength.{designStrength}
 use Rattle.sp64.specs.declared.tables.Stress.the-variants.{Compression, Tension, Shear}
+use Rattle.cells.specs.Greatest.{greaterBy, greatest}
 use Rattle.cells.specs.Refusal.{Result, gives, refuses, refusedBy}
 use Rattle.cells.specs.declared.row.Cell.{Cell}
 use Rattle.member.specs.Acceptance.{accept}
@@ -59,12 +61,20 @@ used m c = record { check = number (strength c); utilisation = utilisationOf m c
 
 -- the greater utilisation, the first among equals
 abbrev pub greaterOf : Governing → Governing → Governing
-greaterOf x y = cond (leb (y .utilisation) (x .utilisation)) x y
+greaterOf = greaterBy (λ (g : Governing). g .utilisation)
 
--- of the checks that the row has, the one of greatest utilisation, the lowest number among equals; check 0 where it has none, which no kind has
-unfoldable pub governing : Member → List Strength → Governing
-governing m [] = record { check = 0; utilisation = 0 }
-governing m (c ∷ checks) = cond (omitted m (strength c)) (governing m checks) (greaterOf (used m c) (governing m checks))
+-- the check that governs, with its utilisation; check 0 where there is none, which no kind has
+abbrev pub governedBy : Member → Option Strength → Governing
+governedBy m none = record { check = 0; utilisation = 0 }
+governedBy m (some c) = used m c
+
+-- a strength check that the row has
+abbrev pub hasStrength : Member → Strength → Bool
+hasStrength m c = not (omitted m (strength c))
+
+-- of the checks that the row has, the one of greatest utilisation, the lowest number among equals
+abbrev pub governing : Member → List Strength → Governing
+governing m checks = governedBy m (greatest (hasStrength m) (utilisationOf m) checks)
 
 -- the verdict by strength: it passes up to 1,000,000
 abbrev pub byStrength : Governing → ℕ → Verdict

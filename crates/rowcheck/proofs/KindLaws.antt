@@ -1,14 +1,16 @@
 -- What a check says of the verdict, by what the code finds for it.
 -- Assumes nothing.
 use Prim.Native.Nat.{ℕ}
-use mathlib.Core.Path.{_≡_, ap₂, _∙_}
-use mathlib.Core.Bool.{Bool, true, false, not, _||_}
+use mathlib.Core.Path.{_≡_, refl, ap₂, _∙_}
+use mathlib.Core.Bool.{Bool, true, false, not, cond, _||_}
 use mathlib.Core.List.{List, [], _∷_}
-use lib.Dec.{leb·zero}
+use mathlib.Core.Option.{Option, none, some}
+use lib.Dec.{leb, leb·zero}
 use borrow.Author.Tests.{not-true, not-false}
+use Rattle.cells.specs.Greatest.{orGreater, greatest}
 use Rattle.member.specs.Checks.{YesNo, Strength, yesNo, strength, number, omitted}
 use Rattle.member.specs.Member.{countOf}
-use Rattle.member.specs.Verdict.{holds, used, greaterOf, governing, byStrength, judgeBy, failedOn, countOnFail}
+use Rattle.member.specs.Verdict.{holds, utilisationOf, used, greaterOf, governedBy, hasStrength, governing, byStrength, judgeBy, failedOn, countOnFail}
 use Rattle.member.specs.declared.member.Member.{Member}
 use Rattle.member.specs.declared.verdict.Governing.{Governing}
 use Rattle.member.specs.declared.verdict.Verdict.{Verdict}
@@ -34,17 +36,26 @@ pub skips : (m : Member) (c : YesNo) (checks : List YesNo) (v : Verdict) {r : Ve
 unfolding judgeBy
 skips m c checks v without e = rw without e
 
+-- the greater of c and what governs the rest, by what the code finds for them
+greater-of : (m : Member) (c : Strength) (rest : Option Strength) → greaterOf (used m c) (governedBy m rest) ≡ used m (orGreater (utilisationOf m) c rest)
+greater-of m c none = rw leb·zero refl
+greater-of m c (some d) = by (leb (utilisationOf m d) (utilisationOf m c))
+  where
+    by : (t : Bool) → cond t (used m c) (used m d) ≡ used m (cond t c d)
+    by true = refl
+    by false = refl
+
 -- the next strength check is c, which the row has, and the code finds x for it
 module _ (m : Member) (c : Strength) {x : Governing} (kept : omitted m (strength c) ≡ false) (found : x ≡ used m c) where
   -- it is the last
   pub only : x ≡ governing m (c ∷ [])
-  unfolding governing
-  only = rw (kept, leb·zero) found
+  unfolding greatest
+  only = rw kept found
 
   -- the code compares it with y, which governs the rest
   pub governs : (checks : List Strength) {y g : Governing} → y ≡ governing m checks → g ≡ greaterOf x y → g ≡ governing m (c ∷ checks)
-  unfolding governing
-  governs checks rest e = rw kept (e ∙ ap₂ greaterOf found rest)
+  unfolding greatest
+  governs checks rest e = rw kept (e ∙ ap₂ greaterOf found rest ∙ greater-of m c (greatest (hasStrength m) (utilisationOf m) checks))
 
 -- no yes-or-no check is left, and the code finds the check that governs and the count
 pub strength-gives : (m : Member) (checks : List Strength) {g : Governing} {count : ℕ} {r : Verdict}

@@ -3,11 +3,12 @@
 use Prim.Native.Nat.{_*_}
 use mathlib.Core.Path.{_≡_, refl}
 use lib.Dec.{T, ltb, lit<}
+use Rattle.cells.specs.Greatest.{greatest}
 use Rattle.cells.specs.Lowest.{lowest}
 use Rattle.rounding.specs.Fraction.{Fraction}
 use Rattle.packed.proofs.Sizes.{blank-row}
 use Rattle.member.specs.Acceptance.{lowestThat, acceptKind}
-use Rattle.member.specs.Verdict.{governing, judgeBy}
+use Rattle.member.specs.Verdict.{judgeBy}
 use Rattle.worked.specs.Cases.{SameValue, All}
 use Rattle.worked.specs.Table.{table}
 
@@ -22,7 +23,7 @@ same real written cross = record { real = lit< real; written = lit< written; cro
 
 -- every case of the table, by computing; row H by the law of packing
 pub worked : All table
-unfolding lowest lowestThat acceptKind governing judgeBy table
+unfolding lowest lowestThat acceptKind greatest judgeBy table
 worked =
     -- A
     (refl, refl) and

@@ -3,9 +3,8 @@
 use mathlib.Core.Path.{ap}
 use mathlib.Core.Bool.{not}
 use mathlib.Core.List.{[], _∷_}
-use lib.Dec.{leb·zero}
+use Rattle.cells.specs.Greatest.{greatest}
 use Rattle.member.specs.Checks.{netTension, sidePieces}
-use Rattle.member.specs.Verdict.{governing}
 use Rattle.rowcheck.proofs.KindLaws.{fails, goes-on, skips, strength-gives}
 use borrow.Author.Needs.{needs}
 use Rattle.rowcheck.proofs.kinds.plain_tension.Statement.{statement}
@@ -45,7 +44,7 @@ by-strength-requires : tie.Need-by-strength-requires
 by-strength-requires c κs = search needs
 
 returns-3 : tie.Need-returns-3
-unfolding governing
+unfolding greatest
 returns-3 c =
     let slender = c .before .before .before in
     let jointless = slender .before .before .before .before .pre .2 in
@@ -54,7 +53,7 @@ returns-3 c =
     (goes-on _ _ _ _ (slender .before .slender-across-width .ensures) (slender .if2 .left)
     (skips _ _ _ _ (ap not jointless)
     (strength-gives _ (netTension ∷ sidePieces ∷ [])
-    (rw (jointless, leb·zero, ← (c .before .before .tension-resistance .ensures .exact)) (c .before .against .ensures))
+    (rw (jointless, ← (c .before .before .tension-resistance .ensures .exact)) (c .before .against .ensures))
     (rw jointless)
     (c .by-strength .ensures)))))
 
