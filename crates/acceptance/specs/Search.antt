@@ -6,10 +6,7 @@ use mathlib.Core.List.{List}
 use lib.ListN.{drop}
 use Rattle.cells.specs.Lowest.{lowest}
 use Rattle.cells.specs.declared.row.Cell.{Cell}
-use Rattle.member.specs.Acceptance.{breaks}
-use Rattle.member.specs.declared.kind.Kind.{Kind}
-use Rattle.member.specs.declared.acceptance.Rule.{Rule}
 
--- the lowest cell that breaks a rule, of those from place i on; the first cell is at place 0
-abbrev pub searchFrom : Rule → Kind → Bool → List Cell → ℕ → ℕ
-searchFrom rule kind begun cells i = lowest (breaks rule kind begun) (i + 1) (drop i cells)
+-- the lowest cell of which a test is true, of those from place i on; the first cell is at place 0
+abbrev pub searchFrom : (ℕ → Cell → Bool) → List Cell → ℕ → ℕ
+searchFrom test cells i = lowest test (i + 1) (drop i cells)

@@ -1,15 +1,15 @@
 // Accept a row: the member that it describes, or why it is refused.
 use crate::naming::member_of;
 use crate::naming::values_of;
+use crate::searches::is_begun;
+use crate::searches::lowest_misfilled;
 use crate::searches::lowest_outside;
-use crate::searches::lowest_that;
 use crate::searches::lowest_unknown;
 use cellrules::kind::kind_of;
 use cells::refusal::Refusal;
 use cells::row::Cell;
 use cells::row::Row;
 use member::acceptance::Accepted;
-use member::acceptance::Rule;
 use member::kind::Kind;
 use member::kind::KindCode;
 ghost use mathlib.Core.Path.{_≡_};
@@ -20,8 +20,8 @@ ghost use Rattle.member.specs.Acceptance.{acceptKind, accept, acceptedResult};
 fn accept_kind(kind: Kind, row: Row) -> Accepted
     ensures { λ r. ⌜ acceptedResult r ≡ acceptKind kind (cellsOf row) ⌝ }
 {
-    let begun = lowest_that(Rule::Begin, kind, false, row) != 0;
-    let misfilled = lowest_that(Rule::Fill, kind, begun, row);
+    let begun = is_begun(kind, row);
+    let misfilled = lowest_misfilled(kind, begun, row);
     if misfilled != 0 {
         return Accepted::Refused(Refusal::Misfilled(misfilled));
     }

@@ -1,24 +1,22 @@
-// The lowest cell that breaks a rule, by searches through a row.
-use cellrules::rules::is_broken;
+// Searches through a row: for a joint begun, and for the lowest cell of each refusal.
+use cellrules::rules::begins_joint;
+use cellrules::rules::is_misfilled;
 use cellrules::rules::is_outside;
 use cellrules::rules::is_unknown;
 use cells::row::CELLS;
 use cells::row::Row;
-use member::acceptance::Rule;
 use member::kind::Kind;
-ghost use mathlib.Core.Bool.{false, cond};
+ghost use mathlib.Core.Bool.{cond};
 ghost use mathlib.Core.Path.{_≡_};
 ghost use Prim.Native.Nat.{_≤_};
 ghost use lib.Dec.{eqb};
 ghost use Rattle.cells.specs.Row.{cellCount, cellsOf};
-ghost use Rattle.member.specs.Acceptance.{lowestThat};
-ghost use Rattle.member.specs.declared.kind.Kind.the-variants.{Tension};
-ghost use Rattle.member.specs.declared.acceptance.Rule.the-variants.{Code, Range};
+ghost use Rattle.member.specs.Acceptance.{misfilled, unknownCode, outOfRange, lowestCell, isBegun};
 ghost use Rattle.acceptance.specs.Search.{searchFrom};
 
-// The lowest cell that breaks a rule, 0 where none does. Codes and ranges have quicker searches below.
-pub fn lowest_that(rule: Rule, kind: Kind, begun: bool, row: Row) -> u32
-    ensures { λ r. ⌜ r ≡ lowestThat rule kind begun (cellsOf row) ⌝ }
+// Whether a row has begun a joint.
+pub fn is_begun(kind: Kind, row: Row) -> bool
+    ensures { λ r. ⌜ r ≡ isBegun kind (cellsOf row) ⌝ }
 {
     let cells = row.cells;
     let mut i: usize = 0;
@@ -26,7 +24,25 @@ pub fn lowest_that(rule: Rule, kind: Kind, begun: bool, row: Row) -> u32
         let slot = cells[i];
         let cell = slot.cell;
         let n = (i + 1) as u32;
-        if is_broken(rule, kind, begun, n, cell) {
+        if begins_joint(kind, n, cell) {
+            return true;
+        }
+        i = i + 1;
+    }
+    false
+}
+
+// The lowest cell that is blank or filled against its kind, 0 where there is none.
+pub fn lowest_misfilled(kind: Kind, begun: bool, row: Row) -> u32
+    ensures { λ r. ⌜ r ≡ lowestCell (misfilled kind begun) (cellsOf row) ⌝ }
+{
+    let cells = row.cells;
+    let mut i: usize = 0;
+    while i < CELLS {
+        let slot = cells[i];
+        let cell = slot.cell;
+        let n = (i + 1) as u32;
+        if is_misfilled(kind, begun, n, cell) {
             return n;
         }
         i = i + 1;
@@ -36,7 +52,7 @@ pub fn lowest_that(rule: Rule, kind: Kind, begun: bool, row: Row) -> u32
 
 // The lowest cell with an unknown code, 0 where there is none. Only cells 2, 3 and 13 have codes.
 pub fn lowest_unknown(kind: Kind, row: Row) -> u32
-    ensures { λ r. ⌜ r ≡ lowestThat Code kind false (cellsOf row) ⌝ }
+    ensures { λ r. ⌜ r ≡ lowestCell (unknownCode kind) (cellsOf row) ⌝ }
 {
     let cells = row.cells;
     let second = cells[1];
@@ -60,7 +76,7 @@ pub fn lowest_unknown(kind: Kind, row: Row) -> u32
 // The lowest cell with a value outside its range, of those from one place up to another; 0 where there is none.
 fn lowest_outside_in(row: Row, from: usize, to: usize) -> u32
     requires { ⌜ (from ≤ to) × (to ≤ cellCount) ⌝ }
-    ensures { λ r. ⌜ searchFrom Range Tension false (cellsOf row) from ≡ cond (eqb r 0) (searchFrom Range Tension false (cellsOf row) to) r ⌝ }
+    ensures { λ r. ⌜ searchFrom outOfRange (cellsOf row) from ≡ cond (eqb r 0) (searchFrom outOfRange (cellsOf row) to) r ⌝ }
 {
     let cells = row.cells;
     let mut i: usize = from;
@@ -78,7 +94,7 @@ fn lowest_outside_in(row: Row, from: usize, to: usize) -> u32
 
 // The lowest cell with a value outside its range, 0 where there is none. Parts of at most ten cells, which the compiler writes out with the ranges in them.
 pub fn lowest_outside(row: Row) -> u32
-    ensures { λ r. ⌜ r ≡ lowestThat Range Tension false (cellsOf row) ⌝ }
+    ensures { λ r. ⌜ r ≡ lowestCell outOfRange (cellsOf row) ⌝ }
 {
     let first = lowest_outside_in(row, 0, 7);
     if first != 0 {

@@ -1,19 +1,15 @@
-// What a cell may break: the rules of filling, codes and ranges.
+// The tests of a cell: whether it begins a joint, and refusals 2, 3 and 4.
 use crate::ranges::is_in_range;
 use cells::row::Cell;
-use member::acceptance::Rule;
 use member::kind::Kind;
 use sp64::tables::Stress;
 use strength::tables::duration_factor;
 use strength::tables::slenderness_limit;
 use strength::tables::table_strength;
-ghost use mathlib.Core.Bool.{false};
 ghost use mathlib.Core.Path.{_≡_};
 ghost use Rattle.rounding.specs.Range.{In};
 ghost use Rattle.member.specs.Cells.{filled, valueOf, within, required, optional, wanted, compressed, knownRow, knownCode};
-ghost use Rattle.member.specs.Acceptance.{breaks};
-ghost use Rattle.member.specs.declared.kind.Kind.the-variants.{Tension};
-ghost use Rattle.member.specs.declared.acceptance.Rule.the-variants.{Code, Range};
+ghost use Rattle.member.specs.Acceptance.{begins, misfilled, unknownCode, outOfRange};
 
 // Whether a cell is filled.
 fn is_filled(cell: Cell) -> bool
@@ -107,9 +103,23 @@ fn is_known_code(kind: Kind, n: u32, code: u64) -> bool
     }
 }
 
+// Whether cell n begins a joint.
+pub fn begins_joint(kind: Kind, n: u32, cell: Cell) -> bool
+    ensures { λ r. ⌜ r ≡ begins kind n cell ⌝ }
+{
+    is_filled(cell) & is_optional(kind, n)
+}
+
+// Whether cell n is blank or filled against its kind.
+pub fn is_misfilled(kind: Kind, begun: bool, n: u32, cell: Cell) -> bool
+    ensures { λ r. ⌜ r ≡ misfilled kind begun n cell ⌝ }
+{
+    is_filled(cell) != is_wanted(kind, begun, n)
+}
+
 // Whether cell n has an unknown code.
 pub fn is_unknown(kind: Kind, n: u32, cell: Cell) -> bool
-    ensures { λ r. ⌜ r ≡ breaks Code kind false n cell ⌝ }
+    ensures { λ r. ⌜ r ≡ unknownCode kind n cell ⌝ }
 {
     is_filled(cell) & !is_known_code(kind, n, value_of(cell))
 }
@@ -117,21 +127,7 @@ pub fn is_unknown(kind: Kind, n: u32, cell: Cell) -> bool
 // Whether cell n has a value outside its range.
 pub fn is_outside(n: u32, cell: Cell) -> bool
     requires { ⌜ In 1 22 n ⌝ }
-    ensures { λ r. ⌜ r ≡ breaks Range Tension false n cell ⌝ }
+    ensures { λ r. ⌜ r ≡ outOfRange n cell ⌝ }
 {
     is_filled(cell) & !is_in_range(n, value_of(cell))
-}
-
-// Whether cell n breaks a rule.
-pub fn is_broken(rule: Rule, kind: Kind, begun: bool, n: u32, cell: Cell) -> bool
-    requires { ⌜ In 1 22 n ⌝ }
-    ensures { λ r. ⌜ r ≡ breaks rule kind begun n cell ⌝ }
-{
-    let filled = is_filled(cell);
-    match rule {
-        Rule::Begin => filled & is_optional(kind, n),
-        Rule::Fill => filled != is_wanted(kind, begun, n),
-        Rule::Code => is_unknown(kind, n, cell),
-        Rule::Range => is_outside(n, cell),
-    }
 }

@@ -8,7 +8,7 @@ use Rattle.cells.specs.Lowest.{lowest}
 use Rattle.packed.specs.Bits.{bits, number, bitsOf, bytesOf}
 use Rattle.packed.specs.Packing.{cellBits, rowBits, packed}
 use Rattle.packed.specs.Unpacking.{before, parse, anySet, ending, unpacked}
-use Rattle.member.specs.Acceptance.{lowestThat, acceptKind}
+use Rattle.member.specs.Acceptance.{acceptKind}
 use Rattle.member.specs.Verdict.{judgeBy}
 use Rattle.member.specs.WorkedRows.{rowA, rowF, rowH}
 use Rattle.lines.specs.Line.{rowLine, lineFor, taken}
@@ -44,5 +44,5 @@ lineH = 51 ∷ 32 ∷ 114 ∷ 101 ∷ 102 ∷ 117 ∷ 115 ∷ 101 ∷ 100 ∷ 32
 
 -- worked rows A, F and H, packed
 pub worked-rows : output (packed rowA ++ packed rowF ++ packed rowH) ≡ lineA ∷ lineF ∷ lineH ∷ []
-unfolding lowest bits number bitsOf bytesOf cellBits rowBits packed before parse anySet ending unpacked lowestThat acceptKind greatest judgeBy decimalBy rowLine lineFor taken linesFrom
+unfolding lowest bits number bitsOf bytesOf cellBits rowBits packed before parse anySet ending unpacked acceptKind greatest judgeBy decimalBy rowLine lineFor taken linesFrom
 worked-rows = refl

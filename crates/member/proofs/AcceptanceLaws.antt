@@ -18,13 +18,11 @@ use Rattle.sp64.specs.Joint.{JointRanges}
 use Rattle.sp64.specs.Tables.{slendernessLimit}
 use Rattle.sp64.proofs.StrengthLaws.{material-known}
 use Rattle.sp64.proofs.TableLaws.{limit-in}
-use Rattle.member.specs.Acceptance.{breaks, lowestThat, isBegun, unlessRefused, acceptKind, acceptCode, acceptFirst, accept}
+use Rattle.member.specs.Acceptance.{begins, misfilled, unknownCode, outOfRange, lowestCell, isBegun, unlessRefused, acceptKind, acceptCode, acceptFirst, accept}
 use Rattle.member.specs.Cells.{filled, valueOf, within, wanted, optional, knownCode, compressed, ranges, inRange}
 use Rattle.member.specs.Kind.{kindOf}
 use Rattle.member.specs.Member.{valuesOf, memberOf, jointOf}
 use Rattle.member.specs.Ranges.{Sized, Braced, RangesOf}
-use Rattle.member.specs.declared.acceptance.Rule.{Rule}
-use Rattle.member.specs.declared.acceptance.Rule.the-variants.{Begin, Fill, Code, Range}
 use Rattle.member.specs.declared.kind.Kind.{Kind}
 use Rattle.member.specs.declared.kind.Kind.the-variants.{Tension, Bending, Compression, CompressionBending, TensionBending}
 use Rattle.member.specs.declared.kind.KindCode.{KindCode}
@@ -33,9 +31,9 @@ use Rattle.member.specs.declared.member.Member.{Member}
 
 -- a row in which no cell breaks a rule
 pub record Unbroken (kind : Kind) (begun : Bool) (cells : List Cell) : Type 0 where
-  pub fill : lowestThat Fill kind begun cells ≡ 0
-  pub code : lowestThat Code kind begun cells ≡ 0
-  pub range : lowestThat Range kind begun cells ≡ 0
+  pub fill : lowestCell (misfilled kind begun) cells ≡ 0
+  pub code : lowestCell (unknownCode kind) cells ≡ 0
+  pub range : lowestCell outOfRange cells ≡ 0
 
 -- truth values: what a cell that breaks no rule says
 filled-as : (f w : Bool) → w ≡ true → not (Bool·beq f w) ≡ false → f ≡ true
@@ -62,13 +60,12 @@ same-as-true false e = e
 
 module _ (kind : Kind) (begun : Bool) (cells : List Cell) (whole : length cells ≡ cellCount) (ok : Unbroken kind begun cells) where
   -- no cell breaks a rule
-  unbroken : (rule : Rule) → lowestThat rule kind begun cells ≡ 0 → (k : ℕ) → k < cellCount → breaks rule kind begun (1 + k) (getD cells k Blank) ≡ false
-  unfolding lowestThat
-  unbroken rule e k h = lowest-none (breaks rule kind begun) 1 cells (lit< tt) e k Blank (omega arith)
+  unbroken : (test : ℕ → Cell → Bool) → lowestCell test cells ≡ 0 → (k : ℕ) → k < cellCount → test (1 + k) (getD cells k Blank) ≡ false
+  unbroken test e k h = lowest-none test 1 cells (lit< tt) e k Blank (omega arith)
 
   -- a cell that the kind fills is filled
   filled-at : (k : ℕ) → k < cellCount → wanted kind begun (1 + k) ≡ true → filled (getD cells k Blank) ≡ true
-  filled-at k h w = filled-as _ _ w (unbroken Fill (ok .fill) k h)
+  filled-at k h w = filled-as _ _ w (unbroken (misfilled kind begun) (ok .fill) k h)
 
   value-at : (k : ℕ) → getD (valuesOf cells) k 0 ≡ valueOf (getD cells k Blank)
   value-at k = List·getD-map valueOf cells k Blank
@@ -76,7 +73,7 @@ module _ (kind : Kind) (begun : Bool) (cells : List Cell) (whole : length cells 
   -- its value is in its range
   pub cell-in : (k : ℕ) → k < cellCount → wanted kind begun (1 + k) ≡ true → In (getD ranges k (0, 0) .0) (getD ranges k (0, 0) .1) (getD (valuesOf cells) k 0)
   cell-in k h w =
-      let here : inRange (1 + k) (valueOf (getD cells k Blank)) ≡ true = passes-test _ _ (filled-at k h w) (unbroken Range (ok .range) k h) in
+      let here : inRange (1 + k) (valueOf (getD cells k Blank)) ≡ true = passes-test _ _ (filled-at k h w) (unbroken outOfRange (ok .range) k h) in
       let at : k ≡ 1 + k - 1 = omega arith in
       let inside = ap (λ (i : ℕ). within (getD ranges i (0, 0) .0) (getD ranges i (0, 0) .1) (valueOf (getD cells k Blank))) at ∙ here in
       let b = both-true _ _ inside in
@@ -84,7 +81,7 @@ module _ (kind : Kind) (begun : Bool) (cells : List Cell) (whole : length cells 
 
   -- its code is known
   pub code-known : (k : ℕ) → k < cellCount → wanted kind begun (1 + k) ≡ true → knownCode kind (1 + k) (getD (valuesOf cells) k 0) ≡ true
-  code-known k h w = rw (value-at k) (passes-test _ _ (filled-at k h w) (unbroken Code (ok .code) k h))
+  code-known k h w = rw (value-at k) (passes-test _ _ (filled-at k h w) (unbroken (unknownCode kind) (ok .code) k h))
 
 -- the member of a row in which no cell breaks a rule
 module _ (kind : Kind) (begun : Bool) (cells : List Cell) (whole : length cells ≡ cellCount) (ok : Unbroken kind begun cells) where
@@ -137,10 +134,9 @@ joint-in cells whole ok =
 
 -- a kind without optional cells begins none
 none-begun : (kind : Kind) (cells : List Cell) → ((n : ℕ) → optional kind n ≡ false) → isBegun kind cells ≡ false
-unfolding lowestThat
 none-begun kind cells none =
-    let pass : (n : ℕ) (cell : Cell) → breaks Begin kind false n cell ≡ false = λ n cell. rw (none n) (and-false (filled cell)) in
-    rw (lowest-of-passing (breaks Begin kind false) pass 1 cells)
+    let pass : (n : ℕ) (cell : Cell) → begins kind n cell ≡ false = λ n cell. rw (none n) (and-false (filled cell)) in
+    rw (lowest-of-passing (begins kind) pass 1 cells)
 
 -- the ranges that the member of an accepted row keeps
 pub accepted-ranges : (kind : Kind) (cells : List Cell) {begun : Bool} → length cells ≡ cellCount → begun ≡ isBegun kind cells → Unbroken kind begun cells → RangesOf kind (memberOf kind begun (valuesOf cells))
@@ -174,15 +170,15 @@ accepted-ranges TensionBending cells whole is ok = (
 
 -- what acceptance comes to, by the first rule that a cell breaks
 module _ (kind : Kind) (cells : List Cell) {begun : Bool} (is : begun ≡ isBegun kind cells) where
-  pub fill-refused : {n : ℕ} → n ≡ lowestThat Fill kind begun cells → (n ≡ 0 → ⊥) → acceptKind kind cells ≡ refuses 2 n
+  pub fill-refused : {n : ℕ} → n ≡ lowestCell (misfilled kind begun) cells → (n ≡ 0 → ⊥) → acceptKind kind cells ≡ refuses 2 n
   unfolding acceptKind
   fill-refused e some = rw (← is, ← e, ne-eqb _ _ some)
 
-  pub code-refused : {n : ℕ} → lowestThat Fill kind begun cells ≡ 0 → n ≡ lowestThat Code kind begun cells → (n ≡ 0 → ⊥) → acceptKind kind cells ≡ refuses 3 n
+  pub code-refused : {n : ℕ} → lowestCell (misfilled kind begun) cells ≡ 0 → n ≡ lowestCell (unknownCode kind) cells → (n ≡ 0 → ⊥) → acceptKind kind cells ≡ refuses 3 n
   unfolding acceptKind
   code-refused f e some = rw (← is, f, ← e, ne-eqb _ _ some)
 
-  pub range-refused : {n : ℕ} → lowestThat Fill kind begun cells ≡ 0 → lowestThat Code kind begun cells ≡ 0 → n ≡ lowestThat Range kind begun cells → (n ≡ 0 → ⊥) → acceptKind kind cells ≡ refuses 4 n
+  pub range-refused : {n : ℕ} → lowestCell (misfilled kind begun) cells ≡ 0 → lowestCell (unknownCode kind) cells ≡ 0 → n ≡ lowestCell outOfRange cells → (n ≡ 0 → ⊥) → acceptKind kind cells ≡ refuses 4 n
   unfolding acceptKind
   range-refused f c e some = rw (← is, f, c, ← e, ne-eqb _ _ some)
 

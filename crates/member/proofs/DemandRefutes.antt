@@ -11,7 +11,7 @@ use Rattle.cells.specs.Greatest.{greatest}
 use Rattle.cells.specs.Lowest.{lowest}
 use Rattle.cells.specs.Refusal.{gives}
 use Rattle.sp64.specs.Joint.{ExactJointLength}
-use Rattle.member.specs.Acceptance.{lowestThat, acceptKind, accept}
+use Rattle.member.specs.Acceptance.{acceptKind, accept}
 use Rattle.member.specs.Checks.{Check, yesNo, strength, Has, layout, slendernessH, slendernessB, jointLength, bending, compressionBending}
 use Rattle.member.specs.Demand3.{demandFactor, leastFactor, LayoutOrSlenderness, CountFor, Demand3}
 use Rattle.member.specs.Member.{valuesOf, memberOf}
@@ -31,7 +31,7 @@ abbrev memberA : Member
 memberA = memberOf Bending false (valuesOf rowA)
 
 pub row-A-accepted : accept rowA ≡ gives memberA
-unfolding acceptKind lowestThat lowest
+unfolding acceptKind lowest
 row-A-accepted = refl
 
 pub row-A-failed : (utilisation count : ℕ) → Demand3 memberA (says false 7 utilisation count) demandFactor → ⊥
@@ -43,7 +43,7 @@ abbrev memberF : Member
 memberF = memberOf Tension true (valuesOf rowF)
 
 pub row-F-accepted : accept rowF ≡ gives memberF
-unfolding acceptKind lowestThat lowest
+unfolding acceptKind lowest
 row-F-accepted = refl
 
 too-long : ExactJointLength (whole 100000) (memberF .width) (memberF .joint) (memberF .material) → ⊥
@@ -57,7 +57,7 @@ abbrev memberE : Member
 memberE = memberOf Tension true (valuesOf rowE)
 
 pub row-E-accepted : accept rowE ≡ gives memberE
-unfolding acceptKind lowestThat lowest
+unfolding acceptKind lowest
 row-E-accepted = refl
 
 -- row E keeps layout and slenderness
@@ -86,7 +86,7 @@ abbrev edgeMember : Member
 edgeMember = memberOf CompressionBending false (valuesOf edgeRow)
 
 pub edge-accepted : accept edgeRow ≡ gives edgeMember
-unfolding acceptKind lowestThat lowest
+unfolding acceptKind lowest
 edge-accepted = refl
 
 pub edge-breaks-less : Demand3 edgeMember (verdict edgeMember) (λ (c : Check). leastFactor c - 1) → ⊥

@@ -4,53 +4,43 @@ use Prim.Native.Nat.{ℕ, _+_, _<_}
 use native.Mathlib.Omega.{arith}
 use mathlib.Core.Path.{_≡_, refl, sym, subst}
 use mathlib.Core.Logic.{_⊎_, inl, inr}
-use mathlib.Core.Bool.{true, false}
+use mathlib.Core.Bool.{Bool, true, false}
 use mathlib.Core.List.{List}
 use lib.ListN.{length, getD}
 use Rattle.cells.specs.Refusal.{Result, gives, refuses}
 use Rattle.cells.specs.declared.row.Cell.{Cell}
 use Rattle.cells.specs.declared.row.Cell.the-variants.{Blank, Whole}
 use Rattle.cells.proofs.LowestLaws.{Passes, FailsAt, lowest-meaning}
-use Rattle.member.specs.Acceptance.{breaks, lowestThat, isBegun, acceptKind, acceptCode, acceptFirst, accept}
+use Rattle.member.specs.Acceptance.{misfilled, unknownCode, outOfRange, lowestCell, isBegun, acceptKind, acceptCode, acceptFirst, accept}
 use Rattle.member.specs.Kind.{kindOf}
 use Rattle.member.specs.declared.kind.Kind.{Kind}
 use Rattle.member.specs.declared.kind.KindCode.{KindCode}
 use Rattle.member.specs.declared.kind.KindCode.the-variants.{Known, Unknown}
 use Rattle.member.specs.declared.member.Member.{Member}
-use Rattle.member.specs.declared.acceptance.Rule.{Rule}
-use Rattle.member.specs.declared.acceptance.Rule.the-variants.{Fill, Code, Range}
 use Rattle.member.proofs.AcceptanceLaws.{fill-refused, code-refused, range-refused, none-refused}
 
-module _ (kind : Kind) (cells : List Cell) where
-  -- no cell breaks the rule
-  abbrev pub Kept : Rule → Type 0
-  Kept rule = (k : ℕ) → k < length cells → breaks rule kind (isBegun kind cells) (1 + k) (getD cells k Blank) ≡ false
+-- a test of the cells of a row, each with its number
+module _ (cells : List Cell) (test : ℕ → Cell → Bool) where
+  -- it is true of no cell
+  abbrev pub Kept : Type 0
+  Kept = (k : ℕ) → k < length cells → test (1 + k) (getD cells k Blank) ≡ false
 
-  -- the cell at place k, number 1 + k, breaks the rule, and no lower one does
-  pub record Named (rule : Rule) (cell : ℕ) : Type 0 where
+  -- it is true of the cell at place k, number 1 + k, and of no lower one
+  pub record Named (cell : ℕ) : Type 0 where
     pub place : ℕ
     pub is : cell ≡ 1 + place
     pub inside : place < length cells
-    pub broken : breaks rule kind (isBegun kind cells) (1 + place) (getD cells place Blank) ≡ true
-    pub lower : (j : ℕ) → j < place → breaks rule kind (isBegun kind cells) (1 + j) (getD cells j Blank) ≡ false
+    pub broken : test (1 + place) (getD cells place Blank) ≡ true
+    pub lower : (j : ℕ) → j < place → test (1 + j) (getD cells j Blank) ≡ false
 
-  -- refusal 2 names the lowest misfilled cell; 3, where none is misfilled, the lowest unknown code; 4, where neither is, the lowest value out of range
-  abbrev pub Meaning : Result Member → Type 0
-  Meaning (gives m) = Kept Fill × Kept Code × Kept Range
-  Meaning (refuses number cell) =
-      ((number ≡ 2) × Named Fill cell) ⊎ (((number ≡ 3) × Kept Fill × Named Code cell) ⊎ ((number ≡ 4) × Kept Fill × Kept Code × Named Range cell))
+  -- what a search finds
+  abbrev Found : Type 0
+  Found = ((lowestCell test cells ≡ 0) × Kept) ⊎ ((cell : ℕ) × (cell ≡ lowestCell test cells) × (cell ≡ 0 → ⊥) × Named cell)
 
-  -- what a search for a rule finds
-  abbrev Found : Rule → Type 0
-  Found rule =
-      ((lowestThat rule kind (isBegun kind cells) cells ≡ 0) × Kept rule)
-      ⊎ ((cell : ℕ) × (cell ≡ lowestThat rule kind (isBegun kind cells) cells) × (cell ≡ 0 → ⊥) × Named rule cell)
-
-  found : (rule : Rule) → Found rule
-  unfolding lowestThat
-  found rule = by (lowest-meaning (breaks rule kind (isBegun kind cells)) 1 cells)
+  found : Found
+  found = by (lowest-meaning test 1 cells)
     where
-      by : Passes (breaks rule kind (isBegun kind cells)) 1 cells ⊎ ((k : ℕ) × FailsAt (breaks rule kind (isBegun kind cells)) 1 cells k) → Found rule
+      by : Passes test 1 cells ⊎ ((k : ℕ) × FailsAt test 1 cells k) → Found
       by (inl r) = inl (r .none, λ k h. r .all k Blank h)
       by (inr (k, r)) =
           inr (
@@ -60,21 +50,36 @@ module _ (kind : Kind) (cells : List Cell) where
             record { place = k; is = refl; inside = r .inside; broken = r .failing Blank; lower = λ j h. r .below j Blank h },
           )
 
+module _ (kind : Kind) (cells : List Cell) where
+  -- the tests of refusals 2, 3 and 4
+  abbrev fill : ℕ → Cell → Bool
+  fill = misfilled kind (isBegun kind cells)
+
+  abbrev code : ℕ → Cell → Bool
+  code = unknownCode kind
+
+  -- refusal 2 names the lowest misfilled cell; 3, where none is misfilled, the lowest unknown code; 4, where neither is, the lowest value out of range
+  abbrev pub Meaning : Result Member → Type 0
+  Meaning (gives m) = Kept cells fill × Kept cells code × Kept cells outOfRange
+  Meaning (refuses number cell) =
+      ((number ≡ 2) × Named cells fill cell)
+      ⊎ (((number ≡ 3) × Kept cells fill × Named cells code cell) ⊎ ((number ≡ 4) × Kept cells fill × Kept cells code × Named cells outOfRange cell))
+
   -- a row of a known kind
   pub kind-meaning : Meaning (acceptKind kind cells)
-  kind-meaning = by-fill (found Fill)
+  kind-meaning = by-fill (found cells fill)
     where
-      by-range : (lowestThat Fill kind (isBegun kind cells) cells ≡ 0) × Kept Fill → (lowestThat Code kind (isBegun kind cells) cells ≡ 0) × Kept Code → Found Range → Meaning (acceptKind kind cells)
+      by-range : (lowestCell fill cells ≡ 0) × Kept cells fill → (lowestCell code cells ≡ 0) × Kept cells code → Found cells outOfRange → Meaning (acceptKind kind cells)
       by-range f c (inl r) =
           subst Meaning (sym (none-refused kind cells refl (record { fill = f .0; code = c .0; range = r .0 }))) (f .1, c .1, r .1)
       by-range f c (inr (cell, e, some, named)) = subst Meaning (sym (range-refused kind cells refl (f .0) (c .0) e some)) (inr (inr (refl, f .1, c .1, named)))
 
-      by-code : (lowestThat Fill kind (isBegun kind cells) cells ≡ 0) × Kept Fill → Found Code → Meaning (acceptKind kind cells)
-      by-code f (inl c) = by-range f c (found Range)
+      by-code : (lowestCell fill cells ≡ 0) × Kept cells fill → Found cells code → Meaning (acceptKind kind cells)
+      by-code f (inl c) = by-range f c (found cells outOfRange)
       by-code f (inr (cell, e, some, named)) = subst Meaning (sym (code-refused kind cells refl (f .0) e some)) (inr (inl (refl, f .1, named)))
 
-      by-fill : Found Fill → Meaning (acceptKind kind cells)
-      by-fill (inl f) = by-code f (found Code)
+      by-fill : Found cells fill → Meaning (acceptKind kind cells)
+      by-fill (inl f) = by-code f (found cells code)
       by-fill (inr (cell, e, some, named)) = subst Meaning (sym (fill-refused kind cells refl e some)) (inl (refl, named))
 
 -- what acceptance says of a row, by its cell 1: blank, an unknown code, or a kind

@@ -1,7 +1,7 @@
 -- "Check a row": which rows are refused, by which number and cell, in which order.
 -- Assumes nothing.
 use Prim.Native.Nat.{ℕ}
-use mathlib.Core.Bool.{Bool, false, not, cond, _&&_, Bool·beq}
+use mathlib.Core.Bool.{Bool, not, cond, _&&_, Bool·beq}
 use mathlib.Core.List.{List}
 use lib.Dec.{eqb}
 use lib.ListN.{getD}
@@ -14,31 +14,34 @@ use Rattle.member.specs.Cells.{filled, valueOf, optional, wanted, knownC
 use Rattle.member.specs.Member.{valuesOf, memberOf}
 use Rattle.member.specs.declared.acceptance.Accepted.{Accepted}
 use Rattle.member.specs.declared.acceptance.Accepted.the-variants.{Refused, Member as Accept}
-use Rattle.member.specs.declared.acceptance.Rule.{Rule}
-use Rattle.member.specs.declared.acceptance.Rule.the-variants.{Begin, Fill, Code, Range}
 use Rattle.member.specs.declared.kind.Kind.{Kind}
 use Rattle.member.specs.declared.kind.KindCode.{KindCode}
 use Rattle.member.specs.declared.kind.KindCode.the-variants.{Known, Unknown}
 use Rattle.member.specs.declared.member.Member.{Member}
 
--- what cell n may break, in a row of a kind that has begun its optional cells or has not
-abbrev pub breaks : Rule → Kind → Bool → ℕ → Cell → Bool
--- no refusal: a filled cell begins the optional ones
-breaks Begin kind begun n cell = filled cell && optional kind n
--- refusal 2: the cell is blank or filled against its kind
-breaks Fill kind begun n cell = not (Bool·beq (filled cell) (wanted kind begun n))
--- refusal 3: the code is unknown
-breaks Code kind begun n cell = filled cell && not (knownCode kind n (valueOf cell))
--- refusal 4: the value is outside its range
-breaks Range kind begun n cell = filled cell && not (inRange n (valueOf cell))
+-- cell n begins a joint: it is filled, and one of those of which the kind fills all or none
+abbrev pub begins : Kind → ℕ → Cell → Bool
+begins kind n cell = filled cell && optional kind n
 
--- the lowest cell that breaks a rule, 0 where none does
-unfoldable pub lowestThat : Rule → Kind → Bool → List Cell → ℕ
-lowestThat rule kind begun cells = lowest (breaks rule kind begun) 1 cells
+-- refusal 2: cell n is blank or filled against its kind
+abbrev pub misfilled : Kind → Bool → ℕ → Cell → Bool
+misfilled kind begun n cell = not (Bool·beq (filled cell) (wanted kind begun n))
+
+-- refusal 3: the code in cell n is unknown
+abbrev pub unknownCode : Kind → ℕ → Cell → Bool
+unknownCode kind n cell = filled cell && not (knownCode kind n (valueOf cell))
+
+-- refusal 4: the value in cell n is outside its range
+abbrev pub outOfRange : ℕ → Cell → Bool
+outOfRange n cell = filled cell && not (inRange n (valueOf cell))
+
+-- the lowest cell of a row of which a test is true, 0 where there is none
+abbrev pub lowestCell : (ℕ → Cell → Bool) → List Cell → ℕ
+lowestCell test cells = lowest test 1 cells
 
 -- a joint is begun where any of its cells is filled
 abbrev pub isBegun : Kind → List Cell → Bool
-isBegun kind cells = not (eqb (lowestThat Begin kind false cells) 0)
+isBegun kind cells = not (eqb (lowestCell (begins kind) cells) 0)
 
 -- the refusal that names a cell, if there is one
 abbrev pub unlessRefused : {A : Type 0} → ℕ → ℕ → Result A → Result A
@@ -48,9 +51,9 @@ unlessRefused number cell rest = cond (eqb cell 0) rest (refuses number cell)
 unfoldable pub acceptKind : Kind → List Cell → Result Member
 acceptKind kind cells =
     let begun = isBegun kind cells in
-    unlessRefused 2 (lowestThat Fill kind begun cells)
-    (unlessRefused 3 (lowestThat Code kind begun cells)
-    (unlessRefused 4 (lowestThat Range kind begun cells)
+    unlessRefused 2 (lowestCell (misfilled kind begun) cells)
+    (unlessRefused 3 (lowestCell (unknownCode kind) cells)
+    (unlessRefused 4 (lowestCell outOfRange cells)
     (gives (memberOf kind begun (valuesOf cells)))))
 
 -- refusal 3 of cell 1 where its code is unknown

@@ -18,10 +18,9 @@ use Rattle.cells.specs.declared.row.Cell.{Cell}
 use Rattle.cells.specs.declared.row.Cell.the-variants.{Blank, Whole}
 use Rattle.worksheet.proofs.ReadingLaws.{asRead}
 use Rattle.worksheet.proofs.ReadRows.{AllNarrow, row-as-read}
-use Rattle.member.specs.Acceptance.{accept, acceptKind, acceptCode, acceptFirst, lowestThat, isBegun}
+use Rattle.member.specs.Acceptance.{accept, acceptKind, acceptCode, acceptFirst, misfilled, unknownCode, outOfRange, lowestCell, isBegun}
 use Rattle.member.specs.Kind.{kindOf}
 use Rattle.member.specs.Member.{valuesOf, memberOf}
-use Rattle.member.specs.declared.acceptance.Rule.the-variants.{Fill, Code, Range}
 use Rattle.member.specs.declared.kind.Kind.{Kind}
 use Rattle.member.specs.declared.kind.KindCode.{KindCode}
 use Rattle.member.specs.declared.kind.KindCode.the-variants.{Known, Unknown}
@@ -55,14 +54,14 @@ kind-numbered : (kind : Kind) (cells : List Cell) → Numbered 2 4 (acceptKind k
 unfolding acceptKind
 kind-numbered kind cells =
     let begun = isBegun kind cells in
-    let misfilled = lowestThat Fill kind begun cells in
-    let unknown = lowestThat Code kind begun cells in
-    let outside = lowestThat Range kind begun cells in
-    by-test 2 4 2 misfilled _ (within 2 4 2 (omega arith) (omega arith))
+    let filling = lowestCell (misfilled kind begun) cells in
+    let unknown = lowestCell (unknownCode kind) cells in
+    let outside = lowestCell outOfRange cells in
+    by-test 2 4 2 filling _ (within 2 4 2 (omega arith) (omega arith))
     (by-test 2 4 3 unknown _ (within 2 4 3 (omega arith) (omega arith))
     (by-test 2 4 4 outside (gives (memberOf kind begun (valuesOf cells))) (within 2 4 4 (omega arith) (omega arith)) tt (eqb outside 0))
     (eqb unknown 0))
-    (eqb misfilled 0)
+    (eqb filling 0)
 
 pub accept-numbered : (cells : List Cell) → Numbered 2 4 (accept cells)
 accept-numbered cells = by (getD cells 0 Blank)

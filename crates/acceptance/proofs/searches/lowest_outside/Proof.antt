@@ -1,14 +1,12 @@
 -- `lowest_outside` meets its contract: the searches of its parts, one after another, are the search of the row.
 -- Assumes nothing.
-use mathlib.Core.Bool.{false}
 use mathlib.Core.Path.{_≡_, sym, _∙_}
 use borrow.Author.Needs.{needs}
 use lib.ListN.{length, length-map}
 use Rattle.cells.specs.Row.{cellCount, cellsOf}
 use Rattle.cells.proofs.RowLaws.{length-cells}
-use Rattle.member.specs.declared.kind.Kind.the-variants.{Tension}
-use Rattle.member.specs.declared.acceptance.Rule.the-variants.{Range}
-use Rattle.acceptance.proofs.SearchLaws.{search-whole, part-found, part-passed, part-last}
+use Rattle.member.specs.Acceptance.{outOfRange}
+use Rattle.acceptance.proofs.SearchLaws.{part-found, part-passed, part-last}
 use Rattle.acceptance.proofs.searches.lowest_outside.Statement.{statement}
 use Rattle.acceptance.proofs.searches.lowest_outside.Tie as tie
 
@@ -21,7 +19,7 @@ lowest-outside-in-requires c κs = search needs
 returns : tie.Need-returns
 returns c =
     let one = c .before .lowest-outside-in in
-    sym (search-whole Range Tension false (cellsOf (c .before .before .args .row)) ∙ one .ensures ∙ sym (part-found (one .result) _ (c .if1 .taken)))
+    sym (one .ensures ∙ sym (part-found (one .result) _ (c .if1 .taken)))
 
 lowest-outside-in-requires-2 : tie.Need-lowest-outside-in-requires-2
 lowest-outside-in-requires-2 c κs = search needs
@@ -31,10 +29,8 @@ returns-2 c =
     let two = c .before .lowest-outside-in2 in
     let passed = c .before .before in
     let one = passed .before .lowest-outside-in in
-    let cells = cellsOf (passed .before .before .args .row) in
     sym (
-    search-whole Range Tension false cells
-    ∙ one .ensures
+    one .ensures
     ∙ part-passed (one .result) _ (passed .if1 .left)
     ∙ two .ensures
     ∙ sym (part-found (two .result) _ (c .if2 .taken))
@@ -53,13 +49,12 @@ returns-3 c =
     let start = passed .before .before in
     let cells = cellsOf (start .args .row) in
     sym (
-    search-whole Range Tension false cells
-    ∙ one .ensures
+    one .ensures
     ∙ part-passed (one .result) _ (passed .if1 .left)
     ∙ two .ensures
     ∙ part-passed (two .result) _ (passed2 .if2 .left)
     ∙ three .ensures
-    ∙ part-last Range Tension false cells (all-cells start) (three .result)
+    ∙ part-last outOfRange cells (all-cells start) (three .result)
     )
 
 pub lowest-outside-spec : {M : Type 1} → statement M

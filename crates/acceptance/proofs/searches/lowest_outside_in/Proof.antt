@@ -9,17 +9,16 @@ use lib.ListN.{length, length-map}
 use Rattle.cells.specs.Row.{cellCount, cellsOf}
 use Rattle.cells.specs.declared.row.Row.{Row}
 use Rattle.cells.proofs.RowLaws.{length-cells}
-use Rattle.member.specs.declared.kind.Kind.the-variants.{Tension}
-use Rattle.member.specs.declared.acceptance.Rule.the-variants.{Range}
+use Rattle.member.specs.Acceptance.{outOfRange}
 use Rattle.acceptance.specs.Search.{searchFrom}
-use Rattle.acceptance.proofs.SearchLaws.{tested, search-step, part-found}
+use Rattle.acceptance.proofs.SearchLaws.{turn, part-found}
 use Rattle.acceptance.proofs.searches.lowest_outside_in.Statement.{statement}
 use Rattle.acceptance.proofs.searches.lowest_outside_in.Tie as tie
 
 abbrev Inv-loop : tie.InvT-loop
 Inv-loop from to cells i₀ i =
     let row : Row = record { cells = cells } in
-    (i ≤ to) × (searchFrom Range Tension false (cellsOf row) from ≡ searchFrom Range Tension false (cellsOf row) i)
+    (i ≤ to) × (searchFrom outOfRange (cellsOf row) from ≡ searchFrom outOfRange (cellsOf row) i)
 
 abbrev μ-loop : tie.MeasureT-loop
 μ-loop from to cells i₀ i = to - i
@@ -52,9 +51,7 @@ returns c =
     let l = c .before .before .before .before in
     let row = l .before .before .args .row in
     let i = l .loop .i in
-    let test = tested Range Tension false row (i + 1) i (c .before .is-outside .ensures) (c .if1 .taken) in
-    l .loop .inv .1
-    ∙ search-step Range Tension false (cellsOf row) i true (omega (arith, all-cells l)) test
+    turn outOfRange row i true (omega (arith, all-cells l)) (l .loop .inv .1) (c .before .is-outside .ensures) (c .if1 .taken)
     ∙ part-found (i + 1) _ (λ none. omega (arith, none))
 
 add-i : tie.Need-add-i Inv-loop μ-loop
@@ -67,15 +64,13 @@ loop-again : tie.Need-loop-again Inv-loop μ-loop
 loop-again c =
     let l = c .before .before .before .before in
     let row = l .before .before .args .row in
-    let i = l .loop .i in
-    let test = tested Range Tension false row (i + 1) i (c .before .is-outside .ensures) (c .if1 .left) in
-    (omega arith, l .loop .inv .1 ∙ search-step Range Tension false (cellsOf row) i false (omega (arith, all-cells l)) test)
+    (omega arith, turn outOfRange row (l .loop .i) false (omega (arith, all-cells l)) (l .loop .inv .1) (c .before .is-outside .ensures) (c .if1 .left))
 
 returns-2 : tie.Need-returns-2 Inv-loop μ-loop
 returns-2 c =
     let l = c .before in
     let ended : l .loop .i ≡ l .before .before .args .to = omega (arith, c .loop-test .left, l .loop .inv .0) in
-    l .loop .inv .1 ∙ ap (searchFrom Range Tension false (cellsOf (l .before .before .args .row))) ended
+    l .loop .inv .1 ∙ ap (searchFrom outOfRange (cellsOf (l .before .before .args .row))) ended
 
 pub lowest-outside-in-spec : {M : Type 1} → statement M
 lowest-outside-in-spec =

@@ -6,7 +6,7 @@ use borrow.Author.Needs.{needs}
 use lib.ListN.{length, length-map}
 use Rattle.cells.specs.Row.{cellCount, cellsOf}
 use Rattle.cells.proofs.RowLaws.{length-cells}
-use Rattle.member.specs.declared.acceptance.Rule.the-variants.{Code}
+use Rattle.member.specs.Acceptance.{unknownCode}
 use Rattle.acceptance.proofs.SearchLaws.{tested, search-codes}
 use Rattle.acceptance.proofs.searches.lowest_unknown.Statement.{statement}
 use Rattle.acceptance.proofs.searches.lowest_unknown.Tie as tie
@@ -36,17 +36,17 @@ returns : tie.Need-returns
 returns c =
     let s = c .before .before .before .before in
     let a = s .args in
-    let grade = tested Code (a .kind) false (a .row) 2 1 (c .before .is-unknown .ensures) (c .if1 .taken) in
-    sym (search-codes (a .kind) false (cellsOf (a .row)) (all-cells s) true _ _ grade refl refl)
+    let grade = tested (unknownCode (a .kind)) (a .row) 2 1 (c .before .is-unknown .ensures) (c .if1 .taken) in
+    sym (search-codes (a .kind) (cellsOf (a .row)) (all-cells s) true _ _ grade refl refl)
 
 returns-2 : tie.Need-returns-2
 returns-2 c =
     let g = c .before .before .before in
     let s = g .before .before .before .before in
     let a = s .args in
-    let grade = tested Code (a .kind) false (a .row) 2 1 (g .before .is-unknown .ensures) (g .if1 .left) in
-    let regime = tested Code (a .kind) false (a .row) 3 2 (c .before .is-unknown2 .ensures) (c .if2 .taken) in
-    sym (search-codes (a .kind) false (cellsOf (a .row)) (all-cells s) false true _ grade regime refl)
+    let grade = tested (unknownCode (a .kind)) (a .row) 2 1 (g .before .is-unknown .ensures) (g .if1 .left) in
+    let regime = tested (unknownCode (a .kind)) (a .row) 3 2 (c .before .is-unknown2 .ensures) (c .if2 .taken) in
+    sym (search-codes (a .kind) (cellsOf (a .row)) (all-cells s) false true _ grade regime refl)
 
 returns-3 : tie.Need-returns-3
 returns-3 c =
@@ -54,10 +54,10 @@ returns-3 c =
     let g = r .before .before .before in
     let s = g .before .before .before .before in
     let a = s .args in
-    let grade = tested Code (a .kind) false (a .row) 2 1 (g .before .is-unknown .ensures) (g .if1 .left) in
-    let regime = tested Code (a .kind) false (a .row) 3 2 (r .before .is-unknown2 .ensures) (r .if2 .left) in
-    let table16 = tested Code (a .kind) false (a .row) 13 12 (c .before .is-unknown3 .ensures) (c .if3 .taken) in
-    sym (search-codes (a .kind) false (cellsOf (a .row)) (all-cells s) false false true grade regime table16)
+    let grade = tested (unknownCode (a .kind)) (a .row) 2 1 (g .before .is-unknown .ensures) (g .if1 .left) in
+    let regime = tested (unknownCode (a .kind)) (a .row) 3 2 (r .before .is-unknown2 .ensures) (r .if2 .left) in
+    let table16 = tested (unknownCode (a .kind)) (a .row) 13 12 (c .before .is-unknown3 .ensures) (c .if3 .taken) in
+    sym (search-codes (a .kind) (cellsOf (a .row)) (all-cells s) false false true grade regime table16)
 
 returns-4 : tie.Need-returns-4
 returns-4 c =
@@ -65,10 +65,10 @@ returns-4 c =
     let g = r .before .before .before in
     let s = g .before .before .before .before in
     let a = s .args in
-    let grade = tested Code (a .kind) false (a .row) 2 1 (g .before .is-unknown .ensures) (g .if1 .left) in
-    let regime = tested Code (a .kind) false (a .row) 3 2 (r .before .is-unknown2 .ensures) (r .if2 .left) in
-    let table16 = tested Code (a .kind) false (a .row) 13 12 (c .before .is-unknown3 .ensures) (c .if3 .left) in
-    sym (search-codes (a .kind) false (cellsOf (a .row)) (all-cells s) false false false grade regime table16)
+    let grade = tested (unknownCode (a .kind)) (a .row) 2 1 (g .before .is-unknown .ensures) (g .if1 .left) in
+    let regime = tested (unknownCode (a .kind)) (a .row) 3 2 (r .before .is-unknown2 .ensures) (r .if2 .left) in
+    let table16 = tested (unknownCode (a .kind)) (a .row) 13 12 (c .before .is-unknown3 .ensures) (c .if3 .left) in
+    sym (search-codes (a .kind) (cellsOf (a .row)) (all-cells s) false false false grade regime table16)
 
 pub lowest-unknown-spec : {M : Type 1} → statement M
 lowest-unknown-spec =

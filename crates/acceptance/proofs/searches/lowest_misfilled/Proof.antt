@@ -1,37 +1,35 @@
--- `lowest_that` meets its contract: the loop has come to a cell, and what is left of the search is the search from there.
+-- `lowest_misfilled` meets its contract: the loop has come to a cell, and what is left of the search is the search from there.
 -- Assumes nothing.
 use mathlib.Core.Path.{_≡_, refl, sym, _∙_}
 use mathlib.Core.Bool.{true, false}
-use Prim.Native.Nat.{_+_, _-_, _≤_}
+use Prim.Native.Nat.{_-_, _≤_}
 use native.Mathlib.Omega.{arith}
 use borrow.Author.Needs.{needs}
 use lib.ListN.{length, length-map}
 use Rattle.cells.specs.Row.{cellCount, cellsOf}
 use Rattle.cells.specs.declared.row.Row.{Row}
-use Rattle.cells.proofs.LowestLaws.{lowest-end}
 use Rattle.cells.proofs.RowLaws.{length-cells}
-use Rattle.member.specs.Acceptance.{breaks, lowestThat}
+use Rattle.member.specs.Acceptance.{misfilled}
 use Rattle.acceptance.specs.Search.{searchFrom}
-use Rattle.acceptance.proofs.SearchLaws.{tested, search-step}
-use Rattle.acceptance.proofs.searches.lowest_that.Statement.{statement}
-use Rattle.acceptance.proofs.searches.lowest_that.Tie as tie
+use Rattle.acceptance.proofs.SearchLaws.{turn, search-end}
+use Rattle.acceptance.proofs.searches.lowest_misfilled.Statement.{statement}
+use Rattle.acceptance.proofs.searches.lowest_misfilled.Tie as tie
 
 abbrev Inv-loop : tie.InvT-loop
-Inv-loop rule kind begun cells i₀ i =
+Inv-loop kind begun cells i₀ i =
     let row : Row = record { cells = cells } in
-    (i ≤ cellCount) × (lowestThat rule kind begun (cellsOf row) ≡ searchFrom rule kind begun (cellsOf row) i)
+    (i ≤ cellCount) × (searchFrom (misfilled kind begun) (cellsOf row) 0 ≡ searchFrom (misfilled kind begun) (cellsOf row) i)
 
 abbrev μ-loop : tie.MeasureT-loop
-μ-loop rule kind begun cells i₀ i = cellCount - i
+μ-loop kind begun cells i₀ i = cellCount - i
 
 -- the row has 22 cells
 all-cells : (c : tie.At-loop Inv-loop μ-loop) → length (cellsOf (c .before .before .args .row)) ≡ cellCount
 all-cells c =
     let row = c .before .before .args .row in
-    length-cells row (sym (length-map (row .cells) _) ∙ c .before .before .good .1 .1 .1 .0 .1 .1 .0 .1 .0 .1)
+    length-cells row (sym (length-map (row .cells) _) ∙ c .before .before .good .1 .1 .0 .1 .1 .0 .1 .0 .1)
 
 loop-holds : tie.Need-loop-holds Inv-loop μ-loop
-unfolding lowestThat
 loop-holds c = (omega arith, refl)
 
 mul-slot : tie.Need-mul-slot Inv-loop μ-loop
@@ -46,15 +44,18 @@ add-n c = search needs
 cast-n : tie.Need-cast-n Inv-loop μ-loop
 cast-n c = search needs
 
-is-broken-requires : tie.Need-is-broken-requires Inv-loop μ-loop
-is-broken-requires c κs = search needs
+is-misfilled-requires : tie.Need-is-misfilled-requires Inv-loop μ-loop
+is-misfilled-requires c κs = search needs
 
 returns : tie.Need-returns Inv-loop μ-loop
 returns c =
     let l = c .before .before .before .before in
     let a = l .before .before .args in
-    let test = tested (a .rule) (a .kind) (a .begun) (a .row) _ (l .loop .i) (c .before .is-broken .ensures) (c .if1 .taken) in
-    sym (l .loop .inv .1 ∙ search-step (a .rule) (a .kind) (a .begun) (cellsOf (a .row)) (l .loop .i) true (omega (arith, all-cells l)) test)
+    sym (
+    turn (misfilled (a .kind) (a .begun)) (a .row) (l .loop .i) true (omega (arith, all-cells l)) (l .loop .inv .1)
+    (c .before .is-misfilled .ensures)
+    (c .if1 .taken)
+    )
 
 add-i : tie.Need-add-i Inv-loop μ-loop
 add-i c = search needs
@@ -65,20 +66,21 @@ loop-less c = search needs
 loop-again : tie.Need-loop-again Inv-loop μ-loop
 loop-again c =
     let l = c .before .before .before .before in
-    let a = l .before .before .args in
-    let test = tested (a .rule) (a .kind) (a .begun) (a .row) _ (l .loop .i) (c .before .is-broken .ensures) (c .if1 .left) in (
+    let a = l .before .before .args in (
       omega arith,
-      l .loop .inv .1 ∙ search-step (a .rule) (a .kind) (a .begun) (cellsOf (a .row)) (l .loop .i) false (omega (arith, all-cells l)) test,
+      turn (misfilled (a .kind) (a .begun)) (a .row) (l .loop .i) false (omega (arith, all-cells l)) (l .loop .inv .1)
+          (c .before .is-misfilled .ensures)
+          (c .if1 .left),
     )
 
 returns-2 : tie.Need-returns-2 Inv-loop μ-loop
 returns-2 c =
     let l = c .before in
     let a = l .before .before .args in
-    sym (l .loop .inv .1 ∙ lowest-end (breaks (a .rule) (a .kind) (a .begun)) (cellsOf (a .row)) (l .loop .i) (l .loop .i + 1) (omega (arith, all-cells l)))
+    sym (l .loop .inv .1 ∙ search-end (misfilled (a .kind) (a .begun)) (cellsOf (a .row)) (l .loop .i) (omega (arith, all-cells l)))
 
-pub lowest-that-spec : {M : Type 1} → statement M
-lowest-that-spec =
+pub lowest-misfilled-spec : {M : Type 1} → statement M
+lowest-misfilled-spec =
     tie.close
     (tie.spec
     Inv-loop
@@ -88,7 +90,7 @@ lowest-that-spec =
     array-copy-out-slot
     add-n
     cast-n
-    is-broken-requires
+    is-misfilled-requires
     returns
     add-i
     loop-less
