@@ -1,12 +1,14 @@
 -- The lines for bytes, row after row: none for none; otherwise the line of the first row, and the lines for the bytes after it, numbered on.
+-- The program's lines for an input: those of its first 65,536 bytes.
 -- Assumes nothing.
-use Prim.Native.Nat.{ℕ, suc, _<_}
+use Prim.Native.Nat.{ℕ, suc, _≤_, _<_}
 use mathlib.Core.Path.{_≡_, refl, ap}
-use mathlib.Core.List.{List, [], _∷_}
+use mathlib.Core.List.{List, [], _∷_, _++_}
 use native.Mathlib.Omega.{arith}
 use lib.ListN.{length, drop, length-drop}
+use lib.Seq.{take-all, take-append-le}
 use Rattle.lines.specs.Line.{lineFor, taken}
-use Rattle.lines.specs.Output.{linesFrom, linesOf}
+use Rattle.lines.specs.Output.{linesFrom, linesOf, mostInput, output}
 use Rattle.lines.proofs.OutputLaws.{taken-some, lines-enough}
 
 -- no bytes, no lines
@@ -29,3 +31,11 @@ lines-step number (byte ∷ bytes) some =
     let fewer = length-drop (taken left) left in
     let moves = taken-some left some in
     ap (λ (lines : List (List ℕ)). lineFor number left ∷ lines) (lines-enough (length bytes) (suc number) (drop (taken left) left) (omega arith))
+
+-- an input of at most 65,536 bytes is printed whole
+pub output-whole : (input : List ℕ) → length input ≤ 65536 → output input ≡ linesOf input
+output-whole input within = ap linesOf (take-all mostInput input (omega arith))
+
+-- bytes that follow the first 65,536 change nothing
+pub output-no-more : (input more : List ℕ) → length input ≡ 65536 → output (input ++ more) ≡ output input
+output-no-more input more full = ap linesOf (take-append-le mostInput input more (omega arith))
