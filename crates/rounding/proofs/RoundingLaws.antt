@@ -1,10 +1,10 @@
 -- The effect of rounding, by any divisor above zero.
 -- Assumes nothing.
 use Prim.Native.Nat.{ℕ, zero, suc, _+_, _-_, _*_, _/_, _≤_, _<_}
-use native.Mathlib.Nat.{div-zero, mul-le-mul-left, le-div-iff-mul-le, div-lt-iff-lt-mul, div-mul-le-self, lt-div-mul-add}
+use native.Mathlib.Nat.{div-zero, mul-le-mul-left, le-trans, le-div-iff-mul-le, div-lt-iff-lt-mul, div-mul-le-self, lt-div-mul-add}
 use native.Mathlib.Omega.{arith}
 use mathlib.Core.Path.{_≡_}
-use Rattle.rounding.specs.Rounding.{up}
+use Rattle.rounding.specs.Rounding.{down, up}
 
 -- Rounding down gains nothing and loses less than one unit.
 pub rounding-down : (n d : ℕ) → 0 < d → (d * (n / d) ≤ n) × (n < d * (n / d + 1))
@@ -27,12 +27,14 @@ lt-up {n} {d} {k} pos h =
     let r = le-div-iff-mul-le pos .1 g in
     omega arith
 
+-- Rounding down keeps the order of numerators.
+pub down-more : (d : ℕ) {n n′ : ℕ} → n ≤ n′ → down n d ≤ down n′ d
+down-more zero {n} {n′} le = let none : down n 0 ≡ 0 = div-zero n in omega arith
+down-more (suc d) {n} {n′} le = le-div-iff-mul-le {k = suc d} (omega arith) .1 (le-trans (div-mul-le-self n (suc d)) le)
+
 -- Rounding up keeps the order of numerators and turns that of divisors.
 pub up-more : (d : ℕ) {n n′ : ℕ} → n ≤ n′ → up n d ≤ up n′ d
-up-more zero {n} {n′} le = let none : up n 0 ≡ 0 = div-zero (n + (0 - 1)) in omega arith
-up-more (suc d) {n} {n′} le =
-    let pos : 0 < suc d = omega arith in
-    le-div-iff-mul-le pos .1 (omega (arith, div-mul-le-self (n + (suc d - 1)) (suc d)))
+up-more d le = down-more d (omega arith)
 
 pub up-less : (n : ℕ) {d d′ : ℕ} → 0 < d → d ≤ d′ → up n d′ ≤ up n d
 up-less n {d} {d′} pos le = up-le (omega arith) (omega (arith, rounding-up n d pos .0, mul-le-mul-left (up n d) le))

@@ -8,7 +8,6 @@ use mathlib.Core.Path.{_≡_}
 use mathlib.Core.Bool.{true}
 use borrow.Author.Tests.{leb-true}
 use lib.Dec.{lit<, lit≤}
-use Rattle.rounding.specs.Range.{In}
 use Rattle.rounding.specs.Fraction.{Fraction, whole, scaled, _⊘_, _⊕_, _⊖_, _≼_, _≺_}
 use Rattle.rounding.proofs.Ranges.{in-lit, in-mul, in-wide}
 use Rattle.rounding.proofs.Near.{Near, near-pos}
@@ -16,14 +15,15 @@ use Rattle.sp64.specs.declared.tables.Stress.{Stress}
 use Rattle.sp64.specs.declared.tables.Stress.the-variants.{Bending, Compression, Tension, Shear}
 use Rattle.sp64.specs.declared.strength.Material.{Material}
 use Rattle.sp64.specs.declared.joint.Joint.{Joint}
-use Rattle.sp64.specs.Ranges.{InLimit, InHeight, InLength, InSide, InUndivided, InWidth}
+use Rattle.sp64.specs.Ranges.{InLimit, InHeight, InLength, InSide, InWidth}
 use Rattle.sp64.specs.Strength.{MaterialRanges, exactStrength}
 use Rattle.sp64.specs.Slenderness.{Slenderness}
 use Rattle.sp64.specs.Joint.{JointRanges, Layout, coreCrushing, sideCrushing, dowelBending, exactTerm}
 use Rattle.sp64.specs.Capacity.{Section, exactNetTensionCapacity, exactSidePieceCapacity, exactShearCapacity, exactNR, exactMR}
 use Rattle.sp64.specs.Buckling.{stocky, exactSlenderPhi, exactBucklingPhi, exactBucklingCapacity, exactEulerCapacity}
 use Rattle.sp64.specs.Combined.{exactAxialShare, exactSecondOrderMoment}
-use Rattle.sp64.proofs.StrengthLaws.{undivided-in, strength-near}
+use Rattle.sp64.proofs.StrengthLaws.{strength-near}
+use Rattle.sp64.proofs.JointLaws.{core-crushing-near, side-crushing-near, dowel-bending-near}
 use Rattle.sp64.proofs.PhiLaws.{slender-near, phi-near}
 use Rattle.sp64.proofs.CapacityLaws.{net-height-in, tension-near, whole-tension-near, compression-near, bending-near, shear-near, buckling-near}
 use Rattle.sp64.proofs.Checks.{slenderness-most, phi-loss}
@@ -58,20 +58,14 @@ module _ {limit L s : ℕ} (length : InLength L) (side : InSide s) (most : InLim
 
 -- a dowel's terms
 module _ {b : ℕ} {j : Joint} {mat : Material} (width : InWidth b) (jr : JointRanges j) (known : MaterialRanges mat) where
-  term-proper : {lo hi term : ℕ} → 0 < lo → In lo hi term → Proper (exactTerm term mat)
-  term-proper {lo} pos i = record { real = lit< tt; some = omega (arith, undivided-in known i .low, pos) }
-
   pub core-crushing-proper : Proper (exactTerm (coreCrushing b j) mat)
-  core-crushing-proper = term-proper (lit< tt) (in-mul (in-mul (jr .kc) width) (jr .diameter))
+  core-crushing-proper = proper (lit< tt) (core-crushing-near width jr known)
 
   pub side-crushing-proper : Proper (exactTerm (sideCrushing j) mat)
-  side-crushing-proper = term-proper (lit< tt) (in-mul (in-mul (jr .ka) (jr .side)) (jr .diameter))
+  side-crushing-proper = proper (lit< tt) (side-crushing-near width jr known)
 
   pub dowel-bending-proper : Proper (exactTerm (dowelBending j) mat)
-  dowel-bending-proper =
-      let d2 = in-mul (jr .diameter) (jr .diameter) in
-      let i : InUndivided (dowelBending j) = omega (arith, in-mul (jr .kb) d2, in-mul (jr .km) d2) in
-      term-proper (lit< tt) i
+  dowel-bending-proper = proper (lit< tt) (dowel-bending-near width jr known)
 
 module _ {mat : Material} (known : MaterialRanges mat) where
   pub strength-proper : (stress : Stress) → Proper (exactStrength stress mat)

@@ -1,104 +1,116 @@
--- The dowel joint, rounded against unrounded: the count, the columns and the joint length.
+-- The dowel joint: T by one division, T and the count over the cells' ranges, and the count, the columns and the joint length rounded against unrounded.
 -- Assumes nothing.
-use Prim.Native.Nat.{ℕ, _*_, _≤_, _<_, min}
-use native.Mathlib.Nat.{mul-pos, mul-le-mul-left, mul-le-mul-right, le-of-mul-le-mul-right, le-trans, le-of-lt, min-le-left, min-le-right, min-eq-left, min-eq-right}
-use native.Mathlib.Omega.{arith}
-use mathlib.Core.Path.{_≡_, refl}
+use Prim.Native.Nat.{ℕ, _*_, _≤_, _<_, min, max}
+use native.Mathlib.Nat.{mul-le-mul-left, le-trans}
+use native.Mathlib.Omega.{arith, min-cases}
+use mathlib.Core.Path.{_≡_}
 use mathlib.Core.Logic.{_↔_}
-use mathlib.Core.Bool.{Bool, true, false}
+use mathlib.Core.Bool.{true, false}
 use borrow.Author.Tests.{leb-true, leb-false}
-use lib.Dec.{leb, lit<, lit≤}
-use Rattle.rounding.specs.Rounding.{up}
+use lib.Dec.{lit<, lit≤}
+use Rattle.rounding.specs.Range.{In}
 use Rattle.rounding.specs.Fraction.{Fraction, whole, scaled}
-use Rattle.rounding.proofs.RoundingLaws.{rounding-up, up-le}
+use Rattle.rounding.proofs.RoundingLaws.{rounding-up, up-le, lt-up}
 use Rattle.rounding.proofs.Ranges.{in-mul}
-use Rattle.rounding.proofs.Near.{Near, near-pos, near-wide}
+use Rattle.rounding.proofs.LeastLaws.{upward-both, least-both}
+use Rattle.rounding.proofs.Near.{Near}
 use Rattle.sp64.specs.declared.strength.Material.{Material}
 use Rattle.sp64.specs.declared.joint.Joint.{Joint}
-use Rattle.sp64.specs.Ranges.{InUndivided, InWidth}
-use Rattle.sp64.specs.Strength.{MaterialRanges, undivided}
-use Rattle.sp64.specs.Joint.{JointRanges, coreCrushing, sideCrushing, dowelBending, leastTerm, dowelCapacity, jointCount, columns, lengthOf, jointLengthHolds, exactTerm, Carry, Suffices, LeastCount, LeastColumns, ExactJointLength}
-use Rattle.sp64.proofs.StrengthLaws.{undivided-near}
+use Rattle.sp64.specs.Ranges.{InUndivided, InWidth, InForce, InDowelCapacity, InCount}
+use Rattle.sp64.specs.Strength.{MaterialRanges}
+use Rattle.sp64.specs.Joint.{JointRanges, coreCrushing, sideCrushing, dowelBending, leastTerm, roundedTerm, dowelCapacity, dowelCount, jointCount, columns, lengthOf, jointLengthHolds, exactTerm, Carry, Suffices, LeastCount, LeastColumns, ExactJointLength}
+use Rattle.sp64.proofs.StrengthLaws.{undivided-down-in}
+use Rattle.sp64.proofs.TermLaws.{term-min, term-near, carry-more, carry-upward, termCount, term-exists, term-above, term-below}
 
 -- what two numbers have, the smaller of them has
 min-has : (P : ℕ → Type 0) (x y : ℕ) → P x → P y → P (min x y)
-min-has P x y px py = by (leb x y) refl
-  where
-    by : (t : Bool) → leb x y ≡ t → P (min x y)
-    by true e = rw (min-eq-left (leb-true x y e)) px
-    by false e = rw (min-eq-right (le-of-lt (leb-false x y e))) py
+min-has P x y px py = min-cases x y (P (min x y)) (λ le e. rw e px) (λ le e. rw e py)
 
--- k dowels that carry N in one term carry it in every greater term
-carry-more : (N : Fraction) (mat : Material) (k : ℕ) {x y : ℕ} → x ≤ y → Carry N (exactTerm x mat) k → Carry N (exactTerm y mat) k
-carry-more N mat k le h =
-    let more = mul-le-mul-right (mat .office) (mul-le-mul-right (mat .moisture) (mul-le-mul-right (mat .duration) le)) in
-    omega (arith, h, mul-le-mul-left (2 * k * N .den) more)
+-- T by one division: it is g, rounded, because rounding down keeps the order of terms
+pub capacity-at-once : (b : ℕ) (j : Joint) (mat : Material) → dowelCapacity b j mat ≡ roundedTerm (leastTerm b j) mat
+capacity-at-once b j mat =
+    omega (arith, term-min mat (sideCrushing j) (dowelBending j), term-min mat (coreCrushing b j) (min (sideCrushing j) (dowelBending j)))
 
-module _ (N : Fraction) (b : ℕ) (j : Joint) (mat : Material) (k : ℕ) where
-  suffice : Carry N (exactTerm (leastTerm b j) mat) k → Suffices N b j mat k
-  suffice h =
-      record {
-        core = carry-more N mat k (min-le-left (coreCrushing b j) (min (sideCrushing j) (dowelBending j))) h;
-        side =
-            carry-more N mat k
-            (le-trans (min-le-right (coreCrushing b j) (min (sideCrushing j) (dowelBending j))) (min-le-left (sideCrushing j) (dowelBending j)))
-            h;
-        bending =
-            carry-more N mat k
-            (le-trans (min-le-right (coreCrushing b j) (min (sideCrushing j) (dowelBending j))) (min-le-right (sideCrushing j) (dowelBending j)))
-            h;
-      }
-
-  carry-least : Suffices N b j mat k → Carry N (exactTerm (leastTerm b j) mat) k
-  carry-least s =
-      let P : ℕ → Type 0 = λ term. Carry N (exactTerm term mat) k in
-      min-has P (coreCrushing b j) _ (s .core) (min-has P (sideCrushing j) (dowelBending j) (s .side) (s .bending))
-
-  -- k dowels suffice exactly where 2 × k × T ≥ 1000 × N, with T unrounded
-  pub suffices-iff : Suffices N b j mat k ↔ Carry N (exactTerm (leastTerm b j) mat) k
-  suffices-iff = (carry-least, suffice)
-
--- g over the cells' ranges
-pub least-term-in : {b : ℕ} {j : Joint} → InWidth b → JointRanges j → InUndivided (leastTerm b j)
-least-term-in width jr =
-    omega (
-      arith,
-      in-mul (in-mul (jr .kc) width) (jr .diameter),
-      in-mul (in-mul (jr .ka) (jr .side)) (jr .diameter),
-      in-mul (jr .kb) (in-mul (jr .diameter) (jr .diameter)),
-      in-mul (jr .km) (in-mul (jr .diameter) (jr .diameter)),
+-- k dowels suffice exactly where 2 × k × T ≥ 1000 × N, with T unrounded
+pub suffices-iff : (N : Fraction) (b : ℕ) (j : Joint) (mat : Material) (k : ℕ) → Suffices N b j mat k ↔ Carry N (exactTerm (leastTerm b j) mat) k
+suffices-iff N b j mat k =
+    let P : ℕ → Type 0 = λ term. Carry N (exactTerm term mat) k in (
+      λ s. min-has P (coreCrushing b j) _ (s .core) (min-has P (sideCrushing j) (dowelBending j) (s .side) (s .bending)),
+      λ h. record { core = carry-more N mat k (omega arith) h; side = carry-more N mat k (omega arith) h; bending = carry-more N mat k (omega arith) h },
     )
 
--- T: less than one mN of at least 7,155 is lost
-pub dowel-near : {b : ℕ} {j : Joint} {mat : Material} → InWidth b → JointRanges j → MaterialRanges mat → Near 7155 1000 1001 (dowelCapacity b j mat) (exactTerm (leastTerm b j) mat)
-dowel-near width jr known = near-wide 1000 1001 (lit< tt) (lit≤ tt) (undivided-near known 1000000 (lit< tt) (least-term-in width jr))
+-- the terms over the cells' ranges
+pub core-crushing-in : {b : ℕ} {j : Joint} → InWidth b → JointRanges j → In 12000 60000000 (coreCrushing b j)
+core-crushing-in width jr = in-mul (in-mul (jr .kc) width) (jr .diameter)
 
--- The count lies between the unrounded least count for N and that for k thousandths of N, for every k from 1003.
+pub side-crushing-in : {j : Joint} → JointRanges j → In 6000 60000000 (sideCrushing j)
+side-crushing-in jr = in-mul (in-mul (jr .ka) (jr .side)) (jr .diameter)
+
+pub dowel-bending-in : {j : Joint} → JointRanges j → InUndivided (dowelBending j)
+dowel-bending-in jr = let d2 = in-mul (jr .diameter) (jr .diameter) in omega (arith, in-mul (jr .kb) d2, in-mul (jr .km) d2)
+
+-- and so g, the least of them
+pub least-term-in : {b : ℕ} {j : Joint} → InWidth b → JointRanges j → InUndivided (leastTerm b j)
+least-term-in width jr = omega (arith, core-crushing-in width jr, side-crushing-in jr, dowel-bending-in jr)
+
+-- the terms, rounded beside unrounded
+module _ {b : ℕ} {j : Joint} {mat : Material} (width : InWidth b) (jr : JointRanges j) (known : MaterialRanges mat) where
+  pub core-crushing-near : Near 7155 1000 1001 (roundedTerm (coreCrushing b j) mat) (exactTerm (coreCrushing b j) mat)
+  core-crushing-near = term-near known (omega (arith, core-crushing-in width jr))
+
+  pub side-crushing-near : Near 7155 1000 1001 (roundedTerm (sideCrushing j) mat) (exactTerm (sideCrushing j) mat)
+  side-crushing-near = term-near known (omega (arith, side-crushing-in jr))
+
+  pub dowel-bending-near : Near 7155 1000 1001 (roundedTerm (dowelBending j) mat) (exactTerm (dowelBending j) mat)
+  dowel-bending-near = term-near known (dowel-bending-in jr .low)
+
+  -- and so T
+  pub dowel-near : Near 7155 1000 1001 (dowelCapacity b j mat) (exactTerm (leastTerm b j) mat)
+  dowel-near = rw (capacity-at-once b j mat) (term-near known (least-term-in width jr .low))
+
+  -- T over the cells' ranges
+  pub capacity-in : InDowelCapacity (dowelCapacity b j mat)
+  capacity-in =
+      omega (
+        arith,
+        undivided-down-in known 1000000 (lit< tt) (core-crushing-in width jr),
+        undivided-down-in known 1000000 (lit< tt) (side-crushing-in jr),
+        undivided-down-in known 1000000 (lit< tt) (dowel-bending-in jr),
+      )
+
+-- the count for every force and T in its range
+pub dowel-count-in : {N T : ℕ} → InForce N → InDowelCapacity T → InCount (dowelCount N T)
+dowel-count-in {N} {T} force capacity =
+    omega (
+      arith,
+      lt-up {n = 1000 * N} {d = 2 * T} {k = 0} (omega arith) (omega arith),
+      up-le {n = 1000 * N} {d = 2 * T} {k = 6988121} (omega arith) (omega arith),
+    )
+
+-- and so over the cells' ranges
+pub count-in : {N b : ℕ} {j : Joint} {mat : Material} → InForce N → InWidth b → JointRanges j → MaterialRanges mat → InCount (jointCount N b j mat)
+count-in force width jr known = dowel-count-in force (capacity-in width jr known)
+
+-- The count lies between the unrounded least count for N and that for k thousandths of N, for every k from 1003: so it does in each term.
 module _ (N : ℕ) {b : ℕ} {j : Joint} {mat : Material} (width : InWidth b) (jr : JointRanges j) (known : MaterialRanges mat) where
-  pos-T : 0 < 2 * dowelCapacity b j mat
-  pos-T = omega (arith, dowel-near width jr known .low)
-
   -- the count suffices for N
   count-suffices : Suffices (whole N) b j mat (jointCount N b j mat)
   count-suffices =
-      let near = dowel-near width jr known in
-      let n = jointCount N b j mat in
-      suffice (whole N) b j mat n
-      (omega (arith, mul-le-mul-right 1000000 (rounding-up (1000 * N) (2 * dowelCapacity b j mat) pos-T .0), mul-le-mul-left (2 * n) (near .below)))
+      let T = dowelCapacity b j mat in
+      let some : 0 < T = omega (arith, capacity-in width jr known) in
+      record {
+        core = term-above N (lit< tt) (lit≤ tt) (core-crushing-near width jr known) T some (omega arith);
+        side = term-above N (lit< tt) (lit≤ tt) (side-crushing-near width jr known) T some (omega arith);
+        bending = term-above N (lit< tt) (lit≤ tt) (dowel-bending-near width jr known) T some (omega arith);
+      }
 
   -- and no fewer suffice for k thousandths of N
   count-least : (k : ℕ) → 1003 ≤ k → (n : ℕ) → Suffices (scaled k (whole N)) b j mat n → jointCount N b j mat ≤ n
   count-least k big n s =
-      let near = dowel-near width jr known in
-      up-le pos-T
-      (le-of-mul-le-mul-right {k = k * 1000000}
-      (omega (
-        arith,
-        carry-least (scaled k (whole N)) b j mat n s,
-        mul-le-mul-left (2 * n) (near .close),
-        mul-le-mul-left (2 * n * dowelCapacity b j mat) big,
-      ))
-      (omega arith))
+      let core = term-below N (lit< tt) (lit≤ tt) (core-crushing-near width jr known) k big n (s .core) in
+      let side = term-below N (lit< tt) (lit≤ tt) (side-crushing-near width jr known) k big n (s .side) in
+      let bending = term-below N (lit< tt) (lit≤ tt) (dowel-bending-near width jr known) k big n (s .bending) in
+      min-has (λ T. dowelCount N T ≤ n) _ _ core (min-has (λ T. dowelCount N T ≤ n) _ _ side bending)
 
   pub count-above : (n : ℕ) → LeastCount (whole N) b j mat n → n ≤ jointCount N b j mat
   count-above n l = l .least _ count-suffices
@@ -106,17 +118,28 @@ module _ (N : ℕ) {b : ℕ} {j : Joint} {mat : Material} (width : InWidth b) (j
   pub count-below : (k : ℕ) → 1003 ≤ k → (n : ℕ) → LeastCount (scaled k (whole N)) b j mat n → jointCount N b j mat ≤ n
   count-below k big n l = count-least k big n (l .holds)
 
--- There is an unrounded least count, for every force.
+-- There is an unrounded least count, for every force: the greatest of the three terms' least counts.
 abbrev pub exactCount : Fraction → ℕ → Joint → Material → ℕ
-exactCount N b j mat = up (1000 * N .num * 1000000) (2 * undivided (leastTerm b j) mat * N .den)
+exactCount N b j mat =
+    max (termCount N (exactTerm (coreCrushing b j) mat))
+    (max (termCount N (exactTerm (sideCrushing j) mat)) (termCount N (exactTerm (dowelBending j) mat)))
 
 pub count-exists : (N : Fraction) {b : ℕ} {j : Joint} {mat : Material} → 0 < N .den → InWidth b → JointRanges j → MaterialRanges mat → LeastCount N b j mat (exactCount N b j mat)
 count-exists N {b} {j} {mat} real width jr known =
-    let pos : 0 < 2 * undivided (leastTerm b j) mat * N .den = mul-pos (omega (arith, near-pos (lit< tt) (dowel-near width jr known))) real in
-    let n = exactCount N b j mat in
+    let core = exactTerm (coreCrushing b j) mat in
+    let side = exactTerm (sideCrushing j) mat in
+    let bending = exactTerm (dowelBending j) mat in
+    let two =
+    least-both (term-exists N real (lit< tt) (side-crushing-near width jr known))
+    (term-exists N real (lit< tt) (dowel-bending-near width jr known))
+    (carry-upward N side)
+    (carry-upward N bending) in
+    let all =
+    least-both (term-exists N real (lit< tt) (core-crushing-near width jr known)) two (carry-upward N core)
+    (upward-both (carry-upward N side) (carry-upward N bending)) in
     record {
-      holds = suffice N b j mat n (omega (arith, rounding-up (1000 * N .num * 1000000) (2 * undivided (leastTerm b j) mat * N .den) pos .0));
-      least = λ k s. up-le pos (omega (arith, carry-least N b j mat k s));
+      holds = record { core = all .holds .0; side = all .holds .1 .0; bending = all .holds .1 .1 };
+      least = λ k s. all .least k (s .core, (s .side, s .bending));
     }
 
 -- and the least columns for every count

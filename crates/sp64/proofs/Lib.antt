@@ -3,6 +3,7 @@ pub mod StrengthLaws
 pub mod PhiLaws
 pub mod CapacityLaws
 pub mod CombinedLaws
+pub mod TermLaws
 pub mod JointLaws
 pub mod YesNoChecks
 pub mod Checks

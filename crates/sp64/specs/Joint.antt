@@ -47,9 +47,13 @@ dowelBending j = min (j .kb * (j .diameter * j .diameter) + j .ke * (j .side * j
 abbrev pub leastTerm : ℕ → Joint → ℕ
 leastTerm b j = min (coreCrushing b j) (min (sideCrushing j) (dowelBending j))
 
--- T = g × t × w × o / 1,000,000 down, in mN
+-- a term × t × w × o / 1,000,000 down, in mN
+abbrev pub roundedTerm : ℕ → Material → ℕ
+roundedTerm term m = down (undivided term m) 1000000
+
+-- T, the least of the three rounded terms
 abbrev pub dowelCapacity : ℕ → Joint → Material → ℕ
-dowelCapacity b j m = down (undivided (leastTerm b j) m) 1000000
+dowelCapacity b j m = min (roundedTerm (coreCrushing b j) m) (min (roundedTerm (sideCrushing j) m) (roundedTerm (dowelBending j) m))
 
 -- count = 1000 × N / (2 × T), up
 abbrev pub dowelCount : ℕ → ℕ → ℕ
@@ -80,6 +84,7 @@ abbrev pub Carry : Fraction → Fraction → ℕ → Type 0
 Carry N term k = whole 1000 ⊗ N ≼ whole (2 * k) ⊗ term
 
 -- k dowels suffice for N: in each of the three terms, of which T is the least
+-- (law `suffices-iff`, proofs/JointLaws.antt: exactly where 2 × k × T ≥ 1000 × N, with T unrounded)
 pub record Suffices (N : Fraction) (b : ℕ) (j : Joint) (m : Material) (k : ℕ) : Type 0 where
   pub core : Carry N (exactTerm (coreCrushing b j) m) k
   pub side : Carry N (exactTerm (sideCrushing j) m) k

@@ -1,5 +1,5 @@
 -- The ranges of the cells that the rules take, and of the values that the rules give over them. That each value lies in its range is proved with the
--- function that gives it.
+-- function that gives it, or is a law that this function's proof cites.
 -- Assumes nothing.
 use Prim.Native.Nat.{ℕ}
 use Rattle.rounding.specs.Range.{In}

@@ -2,6 +2,7 @@
 -- Assumes nothing.
 use native.Mathlib.Omega.{arith}
 use Rattle.rounding.proofs.Ranges.{in-mul}
+use Rattle.sp64.proofs.JointLaws.{dowel-bending-in}
 use borrow.Author.Needs.{needs}
 use Rattle.dowels.proofs.joint.dowel_bending.Statement.{statement}
 use Rattle.dowels.proofs.joint.dowel_bending.Tie as tie
@@ -31,9 +32,10 @@ smaller-requires c κs = search needs
 
 returns : tie.Need-returns
 returns c =
-    let known = c .before .before .before .before .before .before .pre in
-    let d2 = in-mul (known .diameter) (known .diameter) in
-    record { exact = search needs; range = omega (arith, c .smaller .ensures, in-mul (known .kb) d2, in-mul (known .km) d2) }
+    record {
+      exact = search needs;
+      range = rw (c .smaller .ensures) (dowel-bending-in (c .before .before .before .before .before .before .pre));
+    }
 
 pub dowel-bending-spec : {M : Type 1} → statement M
 dowel-bending-spec =

@@ -1,7 +1,9 @@
 -- `dowel_capacity` meets its contract.
 -- Assumes nothing.
-use lib.Dec.{lit<}
-use Rattle.rounding.proofs.Ranges.{in-lit, in-div}
+use Prim.Native.Nat.{_/_}
+use mathlib.Core.Path.{_≡_}
+use Rattle.sp64.specs.Joint.{dowelCapacity}
+use Rattle.sp64.proofs.JointLaws.{capacity-at-once, capacity-in}
 use borrow.Author.Needs.{needs}
 use Rattle.dowels.proofs.joint.dowel_capacity.Statement.{statement}
 use Rattle.dowels.proofs.joint.dowel_capacity.Tie as tie
@@ -14,10 +16,10 @@ undivided-product-requires c κs = search needs
 
 returns : tie.Need-returns
 returns c =
-    record {
-      exact = cc;
-      range = in-div (lit< tt) (c .undivided-product .ensures .range) (in-lit 1000000);
-    }
+    let a = c .before .before .args in
+    let known = c .before .before .pre in
+    let exact : c .undivided-product .result / 1000000 ≡ dowelCapacity (a .b) (a .j) (a .m) = cc (capacity-at-once (a .b) (a .j) (a .m)) in
+    record { exact = exact; range = rw exact (capacity-in (known .0) (known .1) (known .2)) }
 
 pub dowel-capacity-spec : {M : Type 1} → statement M
 dowel-capacity-spec = tie.close (tie.spec least-term-requires undivided-product-requires returns)

@@ -1,8 +1,6 @@
 -- `dowel_count` meets its contract.
 -- Assumes nothing.
-use native.Mathlib.Omega.{arith}
-use Prim.Native.Nat.{_*_}
-use Rattle.rounding.proofs.RoundingLaws.{up-le, lt-up}
+use Rattle.sp64.proofs.JointLaws.{dowel-count-in}
 use borrow.Author.Needs.{needs}
 use Rattle.dowels.proofs.joint.dowel_count.Statement.{statement}
 use Rattle.dowels.proofs.joint.dowel_count.Tie as tie
@@ -18,13 +16,10 @@ round-up-requires c κs = search needs
 
 returns : tie.Need-returns
 returns c =
-    let n = c .before .args .n in
-    let t = c .before .args .t in
-    omega (
-      arith,
-      lt-up {n = 1000 * n} {d = 2 * t} {k = 0} (omega arith) (omega arith),
-      up-le {n = 1000 * n} {d = 2 * t} {k = 6988121} (omega arith) (omega arith),
-    )
+    record {
+      exact = search needs;
+      range = rw (c .round-up .ensures) (dowel-count-in (c .before .pre .0) (c .before .pre .1));
+    }
 
 pub dowel-count-spec : {M : Type 1} → statement M
 dowel-count-spec = tie.close (tie.spec mul-round-up mul-round-up-2 round-up-requires returns)
