@@ -9,3 +9,4 @@ pub mod DemandMeaning
 pub mod NothingEmpty
 pub mod RefusalMeaning
 pub mod ChecksMeaning
+pub mod JointMeaning

@@ -5,6 +5,7 @@ pub mod CapacityLaws
 pub mod CombinedLaws
 pub mod TermLaws
 pub mod JointLaws
+pub mod JointMeaning
 pub mod YesNoChecks
 pub mod Checks
 pub mod Denominators

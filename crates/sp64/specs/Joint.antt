@@ -51,7 +51,7 @@ leastTerm b j = min (coreCrushing b j) (min (sideCrushing j) (dowelBending j))
 abbrev pub roundedTerm : ℕ → Material → ℕ
 roundedTerm term m = down (undivided term m) 1000000
 
--- T, the least of the three rounded terms
+-- T, the least of the three rounded terms: g × t × w × o / 1,000,000 down, in mN (law `capacity-at-once`, proofs/JointLaws.antt)
 abbrev pub dowelCapacity : ℕ → Joint → Material → ℕ
 dowelCapacity b j m = min (roundedTerm (coreCrushing b j) m) (min (roundedTerm (sideCrushing j) m) (roundedTerm (dowelBending j) m))
 
