@@ -4,7 +4,7 @@ use Prim.Native.Nat.{ℕ, zero, suc, _+_, _*_, _/_, _%_, _^_}
 use mathlib.Core.List.{List, [], _∷_}
 use lib.IntN.{pos}
 use lib.ListN.{getD}
-use lib.Ieee.{Float, binary64, ofInt, toBits}
+use lib.Ieee.{Float, binary64, ofInt, ofBits, toBits}
 
 -- the n lowest bytes of w, lowest first
 unfoldable pub wordBytes : ℕ → ℕ → List ℕ
@@ -22,6 +22,10 @@ wordAt bytes at = halfWordAt bytes at + 2 ^ 32 * halfWordAt bytes (at + 4)
 -- a float as eight bytes, the least significant first
 abbrev pub floatBytes : Float → List ℕ
 floatBytes x = wordBytes 8 (toBits binary64 x)
+
+-- the float whose eight bytes start at a place
+abbrev pub floatAt : List ℕ → ℕ → Float
+floatAt bytes at = ofBits binary64 (wordAt bytes at)
 
 -- a whole number as a float
 abbrev pub wholeFloat : ℕ → Float

@@ -10,3 +10,4 @@ pub mod NothingEmpty
 pub mod RefusalMeaning
 pub mod ChecksMeaning
 pub mod JointMeaning
+pub mod VerdictRange

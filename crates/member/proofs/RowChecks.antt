@@ -11,6 +11,7 @@ use Rattle.rounding.specs.Fraction.{RoundsUpTo}
 use Rattle.rounding.proofs.FractionLaws.{whole-rounds}
 use Rattle.rounding.proofs.Ranges.{in-wide}
 use Rattle.sp64.specs.Joint.{JointRanges, Layout}
+use Rattle.sp64.specs.Ranges.{InForce}
 use Rattle.sp64.proofs.Checks.{tension-sound, net-tension-sound, side-piece-sound, bending-sound, shear-sound, buckling-sound, compression-bending-sound, tension-bending-sound}
 use Rattle.sp64.proofs.JointLaws.{count-above, count-below, joint-length-pass, joint-length-fail}
 use Rattle.sp64.proofs.YesNoChecks.{layout-iff, slenderness-iff}
@@ -113,9 +114,9 @@ module _ (m : Member) where
   strength-row CompressionBending ranges all c a kept = compression-bending-row ranges all c a
   strength-row TensionBending ranges all c a kept = tension-bending-row ranges c a
 
-  -- the ranges of a joint
-  pub joint-row : (kind : Kind) → RangesOf kind m → m .jointed ≡ true → Sized m × JointRanges (m .joint)
-  joint-row Tension ranges e = (ranges .0, ranges .3 e)
+  -- the ranges of a row with a joint
+  pub joint-row : (kind : Kind) → RangesOf kind m → m .jointed ≡ true → Sized m × JointRanges (m .joint) × InForce (m .force)
+  joint-row Tension ranges e = (ranges .0, ranges .3 e, ranges .2)
   joint-row Bending ranges e = absurd (clash e (ranges .1))
   joint-row Compression ranges e = absurd (clash e (ranges .3))
   joint-row CompressionBending ranges e = absurd (clash e (ranges .5))

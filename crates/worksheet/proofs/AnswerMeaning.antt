@@ -1,15 +1,19 @@
--- What the answer's bytes mean: read as three floats, lowest byte first, they are utilisation, count and check number; and they are written as any number of floats is.
+-- What the answer's bytes mean: read as three floats, lowest byte first, they have the values of utilisation, count and check number; and they are written as any number of floats is.
 -- Assumes nothing.
+use mathlib.Core.Bool.{false}
 use mathlib.Core.Path.{_≡_, refl, sym, ap, _∙_}
 use mathlib.Core.List.{List, [], _∷_, _++_, append-nil, append-assoc}
 use Prim.Native.Nat.{ℕ, _^_, _<_}
 use native.Mathlib.Omega.{arith}
 use lib.IntN.{pos}
 use lib.Ieee.{binary64, ofBits, toBits}
+use lib.Ieee.Exact.{HasValue}
 use lib.Ieee.Bits.{ofBits-toBits, toBits-lt}
 use lib.Ieee.Fits.{ofInt-fits}
-use Rattle.cells.specs.HostBytes.{wordBytes, wordAt, floatBytes, wholeFloat}
+use Rattle.cells.specs.HostBytes.{wordBytes, wordAt, floatBytes, floatAt, wholeFloat}
+use Rattle.cells.proofs.FloatLaws.{whole-exact}
 use Rattle.member.specs.declared.verdict.Verdict.{Verdict}
+use Rattle.member.proofs.VerdictRange.{VerdictRange}
 use Rattle.worksheet.specs.Entries.{verdictBytes}
 use Rattle.worksheet.specs.HostAnswer.{floatsBytes, floatsResult, hostAnswer, answerBytes, answerResult}
 use Rattle.worksheet.specs.declared.answer.HostAnswer.{HostAnswer}
@@ -24,9 +28,9 @@ words-back x y z p q r = (omega arith, omega arith, omega arith)
 
 -- The answer's 24 bytes, as the host reads them: the floats at 0, 8 and 16.
 pub answer-floats : (utilisation count check : ℕ)
-    → (ofBits binary64 (wordAt (answerBytes (hostAnswer utilisation count check)) 0) ≡ wholeFloat utilisation)
-    × (ofBits binary64 (wordAt (answerBytes (hostAnswer utilisation count check)) 8) ≡ wholeFloat count)
-    × (ofBits binary64 (wordAt (answerBytes (hostAnswer utilisation count check)) 16) ≡ wholeFloat check)
+    → (floatAt (answerBytes (hostAnswer utilisation count check)) 0 ≡ wholeFloat utilisation)
+    × (floatAt (answerBytes (hostAnswer utilisation count check)) 8 ≡ wholeFloat count)
+    × (floatAt (answerBytes (hostAnswer utilisation count check)) 16 ≡ wholeFloat check)
 answer-floats utilisation count check =
     let w = words-back _ _ _ (bits-lt utilisation) (bits-lt count) (bits-lt check) in
     (back _ utilisation (w .0), back _ count (w .1), back _ check (w .2))
@@ -37,12 +41,21 @@ answer-floats utilisation count check =
     back : (w n : ℕ) → w ≡ toBits binary64 (wholeFloat n) → ofBits binary64 w ≡ wholeFloat n
     back w n e = ap (ofBits binary64) e ∙ ofBits-toBits binary64 (wholeFloat n) (ofInt-fits binary64 (pos n))
 
--- So they are of a verdict: its utilisation, its count, its check number.
-pub verdict-floats : (v : Verdict)
-    → (ofBits binary64 (wordAt (verdictBytes v) 0) ≡ wholeFloat (v .utilisation))
-    × (ofBits binary64 (wordAt (verdictBytes v) 8) ≡ wholeFloat (v .count))
-    × (ofBits binary64 (wordAt (verdictBytes v) 16) ≡ wholeFloat (v .check))
-verdict-floats v = answer-floats (v .utilisation) (v .count) (v .check)
+-- bytes that hold a verdict: the floats at 0, 8 and 16 have exactly the values of its utilisation, its count and its check number
+pub record HoldsVerdict (bytes : List ℕ) (v : Verdict) : Type 0 where
+  pub utilisation : HasValue (floatAt bytes 0) false (v .utilisation) 1
+  pub count : HasValue (floatAt bytes 8) false (v .count) 1
+  pub check : HasValue (floatAt bytes 16) false (v .check) 1
+
+-- So the bytes of a verdict hold it: nothing of a number so small is lost in a float.
+pub verdict-held : (v : Verdict) → VerdictRange v → HoldsVerdict (verdictBytes v) v
+verdict-held v range =
+    let floats = answer-floats (v .utilisation) (v .count) (v .check) in
+    record {
+      utilisation = rw (floats .0) (whole-exact (v .utilisation) (omega (arith, range .utilisation)));
+      count = rw (floats .1) (whole-exact (v .count) (omega (arith, range .count)));
+      check = rw (floats .2) (whole-exact (v .check) (omega (arith, range .check)));
+    }
 
 -- The answer is three floats, as any number of floats is written.
 pub answer-is-floats : (answer : HostAnswer) → floatsBytes (answer .utilisation ∷ answer .count ∷ answer .check ∷ []) ≡ answerBytes answer

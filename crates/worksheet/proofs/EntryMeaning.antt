@@ -7,12 +7,15 @@ use mathlib.Core.Logic.{_⊎_, inl, inr}
 use mathlib.Core.Path.{_≡_, refl, sym, ap, _∙_, subst}
 use native.Mathlib.Omega.{arith}
 use lib.Dec.{eqb, leb}
+use lib.Ieee.Exact.{HasValue}
 use lib.ListN.{length}
 use borrow.Author.Tests.{leb-true, eqb-true}
 use Rattle.worksheet.specs.HostRow.{readHostRow}
+use Rattle.cells.specs.HostBytes.{floatAt}
 use Rattle.cells.specs.Refusal.{Result, gives, refuses, andThen, leaves, told}
 use Rattle.cells.specs.Row.{cellCount}
 use Rattle.cells.specs.declared.row.Cell.{Cell}
+use Rattle.worksheet.proofs.AnswerMeaning.{HoldsVerdict, verdict-held}
 use Rattle.worksheet.proofs.ReadRows.{row-as-read}
 use Rattle.member.specs.Acceptance.{accept}
 use Rattle.member.specs.Checks.{Check, Has, number}
@@ -23,6 +26,7 @@ use Rattle.member.specs.declared.member.Member.{Member}
 use Rattle.member.specs.declared.verdict.Verdict.{Verdict}
 use Rattle.member.proofs.DemandMeaning.{failForces, failed}
 use Rattle.member.proofs.KeepsDemand3.{demand-factor-kept, keeps-demand-3}
+use Rattle.member.proofs.VerdictRange.{accepted-verdict-range}
 use Rattle.packed.specs.Packing.{packed, packResult, packBuffer}
 use Rattle.packed.specs.Unpacking.{unpacked}
 use Rattle.packed.proofs.RoundTrip.{unpack-pack-buffer}
@@ -32,30 +36,43 @@ use Rattle.worksheet.proofs.RefusalNumbers.{Numbered, reading-numbered,
 
 -- ---- checking
 
--- what a number below 1000 tells: the row was read, accepted and judged, and the answer has 24 bytes
-pub record WasJudged (row : List ℕ) (room : ℕ) : Type 0 where
+-- what a number below 1000 tells: the row was read, accepted and judged, the answer has 24 bytes, and they hold the verdict
+pub record WasJudged (row answer : List ℕ) : Type 0 where
   pub cells : List Cell
   pub member : Member
   pub read : readHostRow row ≡ gives cells
   pub accepted : accept cells ≡ gives member
-  pub long : room ≡ 24
-  pub says : checkReturns row room ≡ passOrFail (verdict member)
+  pub long : length answer ≡ 24
+  pub says : checkReturns row (length answer) ≡ passOrFail (verdict member)
+  pub holds : HoldsVerdict (checkLeaves row answer) (verdict member)
 
 -- a number below 1000 is a verdict's
-pub was-judged : (row : List ℕ) (room : ℕ) → checkReturns row room < 1000 → WasJudged row room
-was-judged row room below = by-read (readHostRow row) refl below
+pub was-judged : (row answer : List ℕ) → checkReturns row (length answer) < 1000 → WasJudged row answer
+was-judged row answer below = by-read (readHostRow row) refl below
   where
-    by-room : (cells : List Cell) (m : Member) → readHostRow row ≡ gives cells → accept cells ≡ gives m → (t : Bool) → eqb room 24 ≡ t → told passOrFail (andThen (cond t (gives tt) (refuses 5 0)) (λ (given : Unit {0}). gives (verdict m))) < 1000 → WasJudged row room
-    by-room cells m e a true t z = record { cells = cells; member = m; read = e; accepted = a; long = eqb-true room 24 t; says = rw (e, a, t) }
+    room : ℕ
+    room = length answer
+
+    by-room : (cells : List Cell) (m : Member) → readHostRow row ≡ gives cells → accept cells ≡ gives m → (t : Bool) → eqb room 24 ≡ t → told passOrFail (andThen (cond t (gives tt) (refuses 5 0)) (λ (given : Unit {0}). gives (verdict m))) < 1000 → WasJudged row answer
+    by-room cells m e a true t z =
+        record {
+          cells = cells;
+          member = m;
+          read = e;
+          accepted = a;
+          long = eqb-true room 24 t;
+          says = rw (e, a, t);
+          holds = rw (e, a, t) (verdict-held (verdict m) (accepted-verdict-range cells m (row-as-read row cells e .long) a));
+        }
     by-room cells m e a false t z = absurd (omega (arith, z))
 
-    by-member : (cells : List Cell) → readHostRow row ≡ gives cells → (a : Result Member) → accept cells ≡ a → told passOrFail (andThen (judged a) (answered room)) < 1000 → WasJudged row room
+    by-member : (cells : List Cell) → readHostRow row ≡ gives cells → (a : Result Member) → accept cells ≡ a → told passOrFail (andThen (judged a) (answered room)) < 1000 → WasJudged row answer
     by-member cells e (gives m) a z = by-room cells m e a (eqb room 24) refl z
     by-member cells e (refuses number cell) a z =
         let low = subst (λ (r : Result Member). Numbered 2 4 r) a (accept-numbered cells) .low in
         absurd (omega (arith, z, low))
 
-    by-read : (r : Result (List Cell)) → readHostRow row ≡ r → told passOrFail (andThen (andThen r checkRow) (answered room)) < 1000 → WasJudged row room
+    by-read : (r : Result (List Cell)) → readHostRow row ≡ r → told passOrFail (andThen (andThen r checkRow) (answered room)) < 1000 → WasJudged row answer
     by-read (gives cells) e z = by-member cells e (accept cells) refl z
     by-read (refuses number cell) e z =
         let low = subst (λ (r : Result (List Cell)). Numbered 1 1 r) e (reading-numbered row) .low in
@@ -79,26 +96,32 @@ not-passed v e = by (v .passes) e
     by true z = absurd (omega (arith, z))
     by false z = refl
 
--- 0 returned: every check that the row has holds with nothing rounded
-pub zero-means : (row : List ℕ) (room : ℕ) → checkReturns row room ≡ 0
-    → (j : WasJudged row room) × ((c : Check) → Has (j .member) c → Holds (j .member) (forcesOf (j .member)) c)
-zero-means row room z =
-    let j = was-judged row room (omega (arith, z)) in
+-- 0 returned: every check that the row has holds with nothing rounded, and the bytes that the host holds are those of the verdict
+pub zero-means : (row answer : List ℕ) → checkReturns row (length answer) ≡ 0
+    → (j : WasJudged row answer) × ((c : Check) → Has (j .member) c → Holds (j .member) (forcesOf (j .member)) c)
+zero-means row answer z =
+    let j = was-judged row answer (omega (arith, z)) in
     let demand = keeps-demand-3 (j .cells) (j .member) (row-as-read row (j .cells) (j .read) .long) (j .accepted) demandFactor demand-factor-kept in
     (j, demand .pass (passed (verdict (j .member)) (sym (j .says) ∙ z)))
 
--- 1 returned: the named check is the row's and fails unrounded, with N, M and Q each times its factor unless it is of layout or slenderness
-pub one-means : (row : List ℕ) (room : ℕ) → checkReturns row room ≡ 1
-    → (j : WasJudged row room) × (c : Check) × Has (j .member) c × (verdict (j .member) .check ≡ number c)
+-- 1 returned: the check whose number the host reads at byte 16 is the row's and fails unrounded, with N, M and Q each times its factor unless it is of layout or slenderness
+pub one-means : (row answer : List ℕ) → checkReturns row (length answer) ≡ 1
+    → (j : WasJudged row answer) × (c : Check) × Has (j .member) c × HasValue (floatAt (checkLeaves row answer) 16) false (number c) 1
     × (Holds (j .member) (failForces demandFactor (forcesOf (j .member)) c) c → ⊥)
-one-means row room z =
-    let j = was-judged row room (omega (arith, z)) in
+one-means row answer z =
+    let j = was-judged row answer (omega (arith, z)) in
     let m = j .member in
     let v = verdict m in
     let demand = keeps-demand-3 (j .cells) m (row-as-read row (j .cells) (j .read) .long) (j .accepted) demandFactor demand-factor-kept in
     let named = demand .named in
     let fails = not-passed v (sym (j .says) ∙ z) in
-    (j, named .0, named .1, named .2, failed m (forcesOf m) v demandFactor demand (named .0) (named .1) (record { fails = fails; names = named .2 }))
+    (
+      j,
+      named .0,
+      named .1,
+      rw (← named .2) (j .holds .check),
+      failed m (forcesOf m) v demandFactor demand (named .0) (named .1) (record { fails = fails; names = named .2 }),
+    )
 
 -- a number from 1000: the answer is untouched
 pub check-untouched : (row answer : List ℕ) → 1000 ≤ checkReturns row (length answer) → checkLeaves row answer ≡ answer

@@ -5,8 +5,8 @@ use mathlib.Core.Bool.{cond}
 use mathlib.Core.List.{List, [], _∷_}
 use lib.Dec.{eqb}
 use lib.ListN.{getD, length}
-use lib.Ieee.{nan, binary64, ofBits}
-use Rattle.cells.specs.HostBytes.{wordAt}
+use lib.Ieee.{nan}
+use Rattle.cells.specs.HostBytes.{floatAt}
 use Rattle.worksheet.specs.Reading.{readCells}
 use Rattle.cells.specs.Refusal.{Result, refuses}
 use Rattle.cells.specs.Row.{cellCount}
@@ -21,7 +21,7 @@ hostCellBytes = 9
 -- the cell whose bytes start at a place: 0 is a blank, whatever its bits; 1 is the float; another first byte is unreadable, as a NaN is
 unfoldable pub hostCellAt : List ℕ → ℕ → HostCell
 hostCellAt bytes at =
-    cond (eqb (getD bytes at 0) 0) Blank (cond (eqb (getD bytes at 0) 1) (Number (ofBits binary64 (wordAt bytes (at + 1)))) (Number nan))
+    cond (eqb (getD bytes at 0) 0) Blank (cond (eqb (getD bytes at 0) 1) (Number (floatAt bytes (at + 1))) (Number nan))
 
 -- n cells, the first at a place
 unfoldable pub hostCellsAt : ℕ → List ℕ → ℕ → List HostCell

@@ -1,0 +1,97 @@
+-- How great the numbers of a verdict on an accepted row can be: a check from 1 to 11, a utilisation of at most 9,999,999, a count of at most 6,988,121.
+-- Assumes nothing.
+use Prim.Native.Nat.{ℕ, _≤_}
+use native.Mathlib.Nat.{min-le-left, le-refl}
+use native.Mathlib.Omega.{arith}
+use mathlib.Core.Path.{_≡_, refl}
+use mathlib.Core.Logic.{inl, inr}
+use mathlib.Core.Bool.{Bool, true, false, cond}
+use mathlib.Core.List.{List}
+use lib.Dec.{leb, lit≤}
+use lib.ListN.{length}
+use Rattle.rounding.specs.Range.{In}
+use Rattle.cells.specs.Refusal.{gives}
+use Rattle.cells.specs.Row.{cellCount}
+use Rattle.cells.specs.declared.row.Cell.{Cell}
+use Rattle.sp64.specs.Buckling.{eulerCapacity}
+use Rattle.sp64.specs.Combined.{axialShare, secondOrderMoment, combined, compressionBending as axialWithMoment}
+use Rattle.sp64.specs.declared.tables.Stress.the-variants.{Compression}
+use Rattle.sp64.proofs.JointLaws.{count-in}
+use Rattle.member.specs.Acceptance.{accept}
+use Rattle.member.specs.Checks.{Check, YesNo, Strength, yesNo, strength, number, layout, slendernessH, slendernessB, jointLength, netTension, sidePieces, bending, shear, bucklingH, bucklingB, compressionBending, tensionBending}
+use Rattle.member.specs.Member.{countOf, NRof, MRof}
+use Rattle.member.specs.Ranges.{RangesOf}
+use Rattle.member.specs.Verdict.{utilisationOf, countOnFail, verdict}
+use Rattle.member.specs.declared.member.Member.{Member}
+use Rattle.member.specs.declared.verdict.Verdict.{Verdict}
+use Rattle.member.proofs.AcceptanceLaws.{accept-ranges}
+use Rattle.member.proofs.RowChecks.{joint-row}
+use Rattle.member.proofs.VerdictLaws.{governs, VerdictOutcome, verdict-outcome}
+
+-- the numbers of a verdict
+pub record VerdictRange (v : Verdict) : Type 0 where
+  pub check : In 1 11 (v .check)
+  pub utilisation : v .utilisation ≤ 9999999
+  pub count : v .count ≤ 6988121
+
+number-in : (c : Check) → In 1 11 (number c)
+number-in (yesNo layout) = omega arith
+number-in (yesNo slendernessH) = omega arith
+number-in (yesNo slendernessB) = omega arith
+number-in (yesNo jointLength) = omega arith
+number-in (strength netTension) = omega arith
+number-in (strength sidePieces) = omega arith
+number-in (strength bending) = omega arith
+number-in (strength shear) = omega arith
+number-in (strength bucklingH) = omega arith
+number-in (strength bucklingB) = omega arith
+number-in (strength compressionBending) = omega arith
+number-in (strength tensionBending) = omega arith
+
+-- the utilisation of check 11 in kind 4 is capped, whichever way it comes about
+combined-most : (N M NR C MR : ℕ) → axialWithMoment N M NR C MR ≤ 9999999
+combined-most N M NR C MR = by (leb 1000000 (axialShare N C))
+  where
+    by : (t : Bool) → cond t 9999999 (combined N NR (secondOrderMoment M (axialShare N C)) MR) ≤ 9999999
+    by true = le-refl 9999999
+    by false = min-le-left 9999999 _
+
+module _ (m : Member) where
+  -- every utilisation is capped
+  utilisation-most : (c : Strength) → utilisationOf m c ≤ 9999999
+  utilisation-most netTension = min-le-left 9999999 _
+  utilisation-most sidePieces = min-le-left 9999999 _
+  utilisation-most bending = min-le-left 9999999 _
+  utilisation-most shear = min-le-left 9999999 _
+  utilisation-most bucklingH = min-le-left 9999999 _
+  utilisation-most bucklingB = min-le-left 9999999 _
+  utilisation-most compressionBending =
+      let NR = NRof Compression m in combined-most (m .force) (m .moment) NR (eulerCapacity NR (m .lh) (m .height)) (MRof m)
+  utilisation-most tensionBending = min-le-left 9999999 _
+
+  -- the count, by whether the row has a joint
+  count-most : RangesOf (m .kind) m → countOf m ≤ 6988121
+  count-most ranges = by (m .jointed) refl
+    where
+      by : (t : Bool) → m .jointed ≡ t → countOf m ≤ 6988121
+      by true e = let j = joint-row m (m .kind) ranges e in rw e (count-in (j .2) (j .0 .section .width) (j .1) (j .0 .material) .high)
+      by false e = rw e (lit≤ tt)
+
+  fail-count-most : RangesOf (m .kind) m → (c : YesNo) → countOnFail m c ≤ 6988121
+  fail-count-most ranges layout = lit≤ tt
+  fail-count-most ranges slendernessH = lit≤ tt
+  fail-count-most ranges slendernessB = lit≤ tt
+  fail-count-most ranges jointLength = count-most ranges
+
+  pub verdict-range : RangesOf (m .kind) m → VerdictRange (verdict m)
+  verdict-range ranges = by (verdict-outcome m)
+    where
+      by : VerdictOutcome m → VerdictRange (verdict m)
+      by (inl (all, e)) =
+          let g = governs m (m .kind) in
+          rw (e, g .2) (record { check = number-in (strength (g .0)); utilisation = utilisation-most (g .0); count = count-most ranges })
+      by (inr (c, fails, e)) = rw e (record { check = number-in (yesNo c); utilisation = lit≤ tt; count = fail-count-most ranges c })
+
+-- the verdict on every row that is not refused
+pub accepted-verdict-range : (cells : List Cell) (m : Member) → length cells ≡ cellCount → accept cells ≡ gives m → VerdictRange (verdict m)
+accepted-verdict-range cells m whole given = verdict-range m (accept-ranges cells m whole given)
