@@ -77,6 +77,14 @@ module _ {A : Type 0} (fails : ℕ → A → Bool) where
             },
           )
 
+  -- of numbers that start with 1, what is found is no greater than the last
+  pub lowest-most : (l : List A) → lowest fails 1 l ≤ length l
+  lowest-most l = by (lowest-meaning 1 l)
+    where
+      by : Passes 1 l ⊎ ((k : ℕ) × FailsAt 1 l k) → lowest fails 1 l ≤ length l
+      by (inl r) = omega (arith, r .none)
+      by (inr (k, r)) = omega (arith, r .found, r .inside)
+
   -- where none is found, every element passes
   pub lowest-none : (n : ℕ) (l : List A) → 0 < n → lowest fails n l ≡ 0 → (k : ℕ) (d : A) → k < length l → fails (n + k) (getD l k d) ≡ false
   lowest-none n l pos e k d h = by (lowest-meaning n l)

@@ -14,6 +14,8 @@ ghost use Prim.Native.Nat.{_≤_};
 ghost use lib.ListN.{take};
 ghost use Rattle.cells.specs.Row.{cellCount, cellsOf, blanks};
 ghost use Rattle.cells.specs.Refusal.{resultOf, valueOr};
+ghost use Rattle.cells.specs.declared.refusal.Outcome.the-variants.{Done};
+ghost use Rattle.packed.specs.Packing.{packed};
 ghost use Rattle.packed.specs.Unpacking.{unpacked, held};
 ghost use Rattle.codec.specs.Answers.{refusedRow};
 
@@ -74,10 +76,11 @@ pub fn unpack_cells(bytes: &[u8], n: usize) -> UnpackedRow
     }
 }
 
-// Unpack a row.
+// Unpack a row. Packing what was unpacked gives the bytes that were read, whatever slice was lent.
 pub fn unpack_row(bytes: &[u8]) -> UnpackedRow
     ensures result { λ r. ⌜ resultOf (r .outcome) (cellsOf (r .row), r .bytes) ≡ unpacked cellCount (now (bytes .entry)) ⌝ }
     ensures whole { λ r. ⌜ (cellsOf (r .row), r .bytes) ≡ valueOr (blanks cellCount, 0) (unpacked cellCount (now (bytes .entry))) ⌝ }
+    ensures back { λ r. ⌜ (r .outcome ≡ Done → packed (cellsOf (r .row)) ≡ take (r .bytes) (now (bytes .entry))) ⌝ }
 {
     unpack_cells(bytes, CELLS)
 }

@@ -1,66 +1,55 @@
--- Demand 3 has teeth: it refutes wrong verdicts and counts of the worked rows, whatever else they say; and its factor is not idle.
+-- Demand 3 has teeth: it refutes a refusal, and wrong verdicts and counts of the worked rows, whatever else they say; and its factor is not idle.
 -- Assumes nothing.
 use Prim.Native.Nat.{ℕ, _-_, _≤_}
 use native.Mathlib.Omega.{arith}
 use mathlib.Core.Path.{_≡_, refl}
 use mathlib.Core.Logic.{inl, inr}
 use mathlib.Core.Bool.{Bool, true, false}
+use mathlib.Core.List.{List}
 use lib.Dec.{lit<, lit≤}
 use Rattle.rounding.specs.Fraction.{whole, scaled}
 use Rattle.cells.specs.Greatest.{greatest}
-use Rattle.cells.specs.Lowest.{lowest}
 use Rattle.cells.specs.Refusal.{gives}
+use Rattle.cells.specs.declared.refusal.Refusal.{Refusal}
+use Rattle.cells.specs.declared.row.Cell.{Cell}
 use Rattle.sp64.specs.Joint.{ExactJointLength}
-use Rattle.member.specs.Acceptance.{acceptKind, accept}
+use Rattle.member.specs.Acceptance.{accept}
 use Rattle.member.specs.Checks.{Check, yesNo, strength, Has, layout, slendernessH, slendernessB, jointLength, bending, compressionBending}
-use Rattle.member.specs.Demand3.{demandFactor, leastFactor, LayoutOrSlenderness, CountFor, Demand3}
-use Rattle.member.specs.Member.{valuesOf, memberOf}
+use Rattle.member.specs.Demand3.{demandFactor, leastFactor, LayoutOrSlenderness, CountFor, Demand3, KeepsDemand3}
 use Rattle.member.specs.Unrounded.{forcesOf, Holds}
 use Rattle.member.specs.Verdict.{judgeBy, verdict}
-use Rattle.member.specs.WorkedRows.{rowA, rowE, rowF, edgeRow}
-use Rattle.member.specs.declared.kind.Kind.the-variants.{Tension, Bending, CompressionBending}
+use Rattle.member.specs.WorkedRows.{rowA}
 use Rattle.member.specs.declared.member.Member.{Member}
+use Rattle.member.specs.declared.verdict.Answer.the-variants.{Refused, Judged}
 use Rattle.member.specs.declared.verdict.Verdict.{Verdict}
+use Rattle.member.proofs.AcceptedRows.{memberA, memberE, memberF, edgeMember, row-A-accepted}
 use Rattle.member.proofs.DemandLaws.{strength-high}
 
 abbrev says : Bool → ℕ → ℕ → ℕ → Verdict
 says passes check utilisation count = record { passes = passes; check = check; utilisation = utilisation; count = count }
 
+-- A row that is not refused by the rules, refused, whatever the refusal and the factors: so row A, and so every row of `AcceptedRows`.
+pub refused-breaks : (cells : List Cell) (m : Member) → accept cells ≡ gives m → (refusal : Refusal) (k : Check → ℕ) → KeepsDemand3 cells (Refused refusal) k → ⊥
+refused-breaks cells m given refusal k keeps =
+    let answer : Refused refusal ≡ Judged (keeps m given .0) = keeps m given .1 in
+    absurd (let z : _≡_ {A = ℕ} 0 1 = cc in omega arith)
+
+pub row-A-refused : (refusal : Refusal) (k : Check → ℕ) → KeepsDemand3 rowA (Refused refusal) k → ⊥
+row-A-refused = refused-breaks rowA memberA row-A-accepted
+
 -- Row A failed on check 7.
-abbrev memberA : Member
-memberA = memberOf Bending false (valuesOf rowA)
-
-pub row-A-accepted : accept rowA ≡ gives memberA
-unfolding acceptKind lowest
-row-A-accepted = refl
-
 pub row-A-failed : (utilisation count : ℕ) → Demand3 memberA (says false 7 utilisation count) demandFactor → ⊥
 row-A-failed u n d =
     d .fail (strength bending) (record { of-kind = inl refl; kept = refl }) (λ low. absurd (omega arith)) (record { fails = refl; names = refl }) (lit≤ tt)
 
 -- Row F passed.
-abbrev memberF : Member
-memberF = memberOf Tension true (valuesOf rowF)
-
-pub row-F-accepted : accept rowF ≡ gives memberF
-unfolding acceptKind lowest
-row-F-accepted = refl
-
 too-long : ExactJointLength (whole 100000) (memberF .width) (memberF .joint) (memberF .material) → ⊥
 too-long x = omega (arith, x .least-count .holds .bending, x .least-columns .holds, x .fits)
 
 pub row-F-passed : (check utilisation count : ℕ) → Demand3 memberF (says true check utilisation count) demandFactor → ⊥
 row-F-passed c u n d = too-long (d .pass refl (yesNo jointLength) (record { of-kind = inr (inr (inr (inl refl))); kept = refl }))
 
--- Row E with another count.
-abbrev memberE : Member
-memberE = memberOf Tension true (valuesOf rowE)
-
-pub row-E-accepted : accept rowE ≡ gives memberE
-unfolding acceptKind lowest
-row-E-accepted = refl
-
--- row E keeps layout and slenderness
+-- Row E with another count. It keeps layout and slenderness.
 kept-E : (c : Check) → LayoutOrSlenderness c → Has memberE c → Holds memberE (forcesOf memberE) c
 kept-E (yesNo layout) low has = lit≤ tt
 kept-E (yesNo slendernessH) low has = lit≤ tt
@@ -82,13 +71,6 @@ pub row-E-with-26 : (passes : Bool) (check utilisation : ℕ) → Demand3 member
 row-E-with-26 p c u d = let le : 26 ≤ 25 = d .count-below refl kept-E 25 count-E-scaled in absurd (omega arith)
 
 -- A row whose verdict by the rules breaks demand 3 at a thousandth less than the least factors.
-abbrev edgeMember : Member
-edgeMember = memberOf CompressionBending false (valuesOf edgeRow)
-
-pub edge-accepted : accept edgeRow ≡ gives edgeMember
-unfolding acceptKind lowest
-edge-accepted = refl
-
 pub edge-breaks-less : Demand3 edgeMember (verdict edgeMember) (λ (c : Check). leastFactor c - 1) → ⊥
 unfolding judgeBy greatest
 edge-breaks-less d =

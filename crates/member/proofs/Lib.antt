@@ -3,6 +3,7 @@ pub mod VerdictLaws
 pub mod DemandLaws
 pub mod RowChecks
 pub mod KeepsDemand3
+pub mod AcceptedRows
 pub mod DemandRefutes
 pub mod Lighter
 pub mod DemandMeaning

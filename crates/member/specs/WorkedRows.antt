@@ -1,4 +1,4 @@
--- The worked rows A to H of document 01, cell by cell, and a row on the edge of demand 3.
+-- The worked rows A to H of document 01, cell by cell, a row for each case of a kind that none of them is, and a row on the edge of demand 3.
 -- Assumes nothing.
 use Prim.Native.Nat.{ℕ}
 use mathlib.Core.List.{List, [], _∷_, _++_, map}
@@ -30,27 +30,37 @@ rowC = strut 2020
 abbrev pub rowD : List Cell
 rowD = strut 2021
 
--- rows E, F and G: kind 1 with a joint, alike in all but d, cell 15, and the length available, cell 17
-abbrev tie : ℕ → ℕ → List Cell
-tie d available =
-    filled (1 ∷ 2 ∷ 4 ∷ 12 ∷ 1000 ∷ 100 ∷ 200 ∷ 100000 ∷ []) ++ blanks 2 ++ filled (3000 ∷ 3000 ∷ 5 ∷ [])
-    ++ filled (50 ∷ d ∷ 3 ∷ available ∷ 500 ∷ 800 ∷ 1800 ∷ 20 ∷ 2500 ∷ [])
+-- cells 1 to 13 of rows E, F and G: kind 1
+abbrev tie : List Cell
+tie = filled (1 ∷ 2 ∷ 4 ∷ 12 ∷ 1000 ∷ 100 ∷ 200 ∷ 100000 ∷ []) ++ blanks 2 ++ filled (3000 ∷ 3000 ∷ 5 ∷ [])
+
+-- their joint, alike in all but d, cell 15, and the length available, cell 17
+abbrev jointed : ℕ → ℕ → List Cell
+jointed d available = tie ++ filled (50 ∷ d ∷ 3 ∷ available ∷ 500 ∷ 800 ∷ 1800 ∷ 20 ∷ 2500 ∷ [])
 
 -- row E: d 12, and a length of 840
 abbrev pub rowE : List Cell
-rowE = tie 12 840
+rowE = jointed 12 840
 
 -- row F: E with 839
 abbrev pub rowF : List Cell
-rowF = tie 12 839
+rowF = jointed 12 839
 
 -- row G: E with d 16
 abbrev pub rowG : List Cell
-rowG = tie 16 840
+rowG = jointed 16 840
 
 -- row H: every cell blank
 abbrev pub rowH : List Cell
 rowH = blanks cellCount
+
+-- row E without its joint
+abbrev pub rowWithoutJoint : List Cell
+rowWithoutJoint = tie ++ blanks 9
+
+-- a row of kind 5: the section, moment and shear of row A with the force and the lengths of row E
+abbrev pub rowOfKind5 : List Cell
+rowOfKind5 = filled (5 ∷ 1 ∷ 3 ∷ 10 ∷ 1000 ∷ 75 ∷ 300 ∷ 100000 ∷ 20000000 ∷ 20000 ∷ 3000 ∷ 3000 ∷ 5 ∷ []) ++ blanks 9
 
 -- a row of kind 4 that fails on check 11 by rounding alone: unrounded it still holds with the forces times 1.002
 abbrev pub edgeRow : List Cell

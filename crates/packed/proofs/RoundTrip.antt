@@ -119,7 +119,7 @@ unpack-tells n bytes = by (parse n 1 (bitsOf bytes)) (parse-tells n 1 (bitsOf by
 pub unpack-gives : (n count : ℕ) (bytes : List ℕ) (cells : List Cell) → unpacked n bytes ≡ gives (cells, count) → Unpacks n count bytes cells
 unpack-gives n count bytes cells e = subst (IfUnpacked n bytes) e (unpack-tells n bytes)
 
--- packing what was unpacked gives the bytes that were read
+-- packing what was unpacked gives the bytes that were read; of a lent slice, whose elements are all bytes, the contract of `unpack_row` says so
 pub pack-unpack : (n count : ℕ) (bytes : List ℕ) (cells : List Cell) → Bytes bytes → unpacked n bytes ≡ gives (cells, count) → packed cells ≡ take count bytes
 pack-unpack n count bytes cells known e = unpack-gives n count bytes cells e .same known
 

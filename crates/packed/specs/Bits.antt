@@ -22,7 +22,7 @@ number zero bs = 0
 number (suc k) [] = 0
 number (suc k) (b ∷ bs) = digit b * 2 ^ k + number k bs
 
--- every element is a byte
+-- every element is a byte, as it is in every lent slice of bytes: clause `back` of `unpack_row` (codec/src/unpack.rt) asks for no such premise
 abbrev pub Bytes : List ℕ → Type 0
 Bytes bytes = (i : ℕ) → getD bytes i 0 < 256
 

@@ -1,6 +1,6 @@
 -- What a host may conclude from the number that an entry returned.
 -- Assumes nothing.
-use Prim.Native.Nat.{ℕ, _+_, _*_, _≤_, _<_}
+use Prim.Native.Nat.{ℕ, _+_, _*_, _/_, _%_, _≤_, _<_}
 use mathlib.Core.Bool.{Bool, true, false, cond}
 use mathlib.Core.List.{List}
 use mathlib.Core.Logic.{_⊎_, inl, inr}
@@ -10,6 +10,7 @@ use lib.Dec.{eqb, leb}
 use lib.Ieee.Exact.{HasValue}
 use lib.ListN.{length}
 use borrow.Author.Tests.{leb-true, eqb-true}
+use Rattle.rounding.specs.Range.{In}
 use Rattle.worksheet.specs.HostRow.{readHostRow}
 use Rattle.cells.specs.HostBytes.{floatAt}
 use Rattle.cells.specs.Refusal.{Result, gives, refuses, andThen, leaves, told}
@@ -32,7 +33,34 @@ use Rattle.packed.specs.Unpacking.{unpacked}
 use Rattle.packed.proofs.RoundTrip.{unpack-pack-buffer}
 use Rattle.packed.proofs.Sizes.{size-of-row}
 use Rattle.worksheet.specs.Entries.{answered, passOrFail, verdictBytes, hostCheck, checkReturns, checkLeaves, hostPack, packReturns, packLeaves}
-use Rattle.worksheet.proofs.RefusalNumbers.{Numbered, reading-numbered, accept-numbered, none-wide}
+use Rattle.worksheet.proofs.RefusalNumbers.{Numbered, reading-numbered, accept-numbered, check-numbered, pack-numbered, none-wide}
+
+-- ---- refusals
+
+-- what a number from 1000 tells: the refusal, whose number and cell it gives back
+pub record WasRefused {A : Type 0} (result : Result A) (returned : ℕ) : Type 0 where
+  pub number : ℕ
+  pub cell : ℕ
+  pub refused : result ≡ refuses number cell
+  pub numbered : In 1 5 number
+  pub in-row : cell ≤ 22
+  pub number-told : returned / 1000 ≡ number
+  pub cell-told : returned % 1000 ≡ cell
+
+-- it is a refusal's, where a value's number is below 1000
+from-1000 : {A : Type 0} (value-number : A → ℕ) (result : Result A) → ((value : A) → result ≡ gives value → value-number value < 1000)
+    → Numbered 1 5 result → 1000 ≤ told value-number result → WasRefused result (told value-number result)
+from-1000 value-number (gives value) few numbered above = absurd (omega (arith, few value refl, above))
+from-1000 value-number (refuses number cell) few numbered above =
+    record {
+      number = number;
+      cell = cell;
+      refused = refl;
+      numbered = numbered .0;
+      in-row = omega (arith, numbered .1);
+      number-told = omega (arith, numbered .1);
+      cell-told = omega (arith, numbered .1);
+    }
 
 -- ---- checking
 
@@ -69,14 +97,14 @@ was-judged row answer below = by-read (readHostRow row) refl below
     by-member : (cells : List Cell) → readHostRow row ≡ gives cells → (a : Result Member) → accept cells ≡ a → told passOrFail (andThen (judged a) (answered room)) < 1000 → WasJudged row answer
     by-member cells e (gives m) a z = by-room cells m e a (eqb room 24) refl z
     by-member cells e (refuses number cell) a z =
-        let low = subst (λ (r : Result Member). Numbered 2 4 r) a (accept-numbered cells) .low in
-        absurd (omega (arith, z, low))
+        let here = subst (λ (r : Result Member). Numbered 2 4 r) a (accept-numbered cells (row-as-read row cells e .long)) in
+        absurd (omega (arith, z, here .0 .low))
 
     by-read : (r : Result (List Cell)) → readHostRow row ≡ r → told passOrFail (andThen (andThen r checkRow) (answered room)) < 1000 → WasJudged row answer
     by-read (gives cells) e z = by-member cells e (accept cells) refl z
     by-read (refuses number cell) e z =
-        let low = subst (λ (r : Result (List Cell)). Numbered 1 1 r) e (reading-numbered row) .low in
-        absurd (omega (arith, z, low))
+        let here = subst (λ (r : Result (List Cell)). Numbered 1 1 r) e (reading-numbered row) in
+        absurd (omega (arith, z, here .0 .low))
 
 -- the answer's length is tested last: a refusal of the row stands, whatever the answer's length
 pub length-last : (row : List ℕ) (room number cell : ℕ) → andThen (readHostRow row) checkRow ≡ refuses number cell → hostCheck row room ≡ refuses number cell
@@ -114,14 +142,21 @@ one-means row answer z =
     let v = verdict m in
     let demand = keeps-demand-3 (j .cells) m (row-as-read row (j .cells) (j .read) .long) (j .accepted) demandFactor demand-factor-kept in
     let named = demand .named in
-    let fails = not-passed v (sym (j .says) ∙ z) in
-    (
+    let fails = not-passed v (sym (j .says) ∙ z) in (
       j,
       named .0,
       named .1,
       rw (← named .2) (j .holds .check),
       failed m (forcesOf m) v demandFactor demand (named .0) (named .1) (record { fails = fails; names = named .2 }),
     )
+
+-- a number from 1000 is a refusal's
+pub was-refused : (row : List ℕ) (room : ℕ) → 1000 ≤ checkReturns row room → WasRefused (hostCheck row room) (checkReturns row room)
+was-refused row room above = from-1000 passOrFail (hostCheck row room) (λ v given. few (v .passes)) (check-numbered row room) above
+  where
+    few : (t : Bool) → cond t 0 1 < 1000
+    few true = omega arith
+    few false = omega arith
 
 -- a number from 1000: the answer is untouched
 pub check-untouched : (row answer : List ℕ) → 1000 ≤ checkReturns row (length answer) → checkLeaves row answer ≡ answer
@@ -157,7 +192,7 @@ pack-refusals row room number cell e = by (readHostRow row) refl
         let one = subst (λ (r : Result (List Cell)). Numbered 1 1 r) read (reading-numbered row) in
         let same : refuses n c ≡ refuses number cell = sym (ap (λ (r : Result (List Cell)). andThen r (λ (cells : List Cell). packResult cells room)) read) ∙ e in
         let a : n ≡ number = cc in
-        inl (omega (arith, a, one .low, one .high))
+        inl (omega (arith, a, one .0 .low, one .0 .high))
 
 -- what a number below 1000 tells: the row was read, and what the buffer now begins with unpacks to its cells and that byte count
 pub record WasPacked (row buffer : List ℕ) : Type 0 where
@@ -190,7 +225,26 @@ was-packed row buffer below = by (readHostRow row) refl
     by (refuses n c) read =
         let one = subst (λ (r : Result (List Cell)). Numbered 1 1 r) read (reading-numbered row) in
         let code : packReturns row (length buffer) ≡ 1000 * n + c = rw read in
-        absurd (omega (arith, below, code, one .low))
+        absurd (omega (arith, below, code, one .0 .low))
+
+-- a number from 1000 is a refusal's
+pub pack-was-refused : (row : List ℕ) (room : ℕ) → 1000 ≤ packReturns row room → WasRefused (hostPack row room) (packReturns row room)
+pack-was-refused row room above = from-1000 (λ (count : ℕ). count) (hostPack row room) few (pack-numbered row room) above
+  where
+    few : (count : ℕ) → hostPack row room ≡ gives count → count < 1000
+    few count e = by (readHostRow row) refl
+      where
+        by-room : (size : ℕ) → size < 1000 → (t : Bool) → cond t (gives size) (refuses 5 0) ≡ gives count → count < 1000
+        by-room size small true h = let same : size ≡ count = cc in omega (arith, small, same)
+        by-room size small false h = absurd (let z : _≡_ {A = ℕ} 0 1 = cc in omega arith)
+
+        by : (r : Result (List Cell)) → readHostRow row ≡ r → count < 1000
+        by (gives cells) read =
+            let size = size-of-row cells (row-as-read row cells read .long) in
+            by-room (length (packed cells)) (omega (arith, size)) (leb (length (packed cells)) room) (sym (read-packs row room cells read) ∙ e)
+        by (refuses n c) read =
+            let other : refuses n c ≡ gives count = sym (ap (λ (r : Result (List Cell)). andThen r (λ (cells : List Cell). packResult cells room)) read) ∙ e in
+            absurd (let z : _≡_ {A = ℕ} 0 1 = cc in omega arith)
 
 -- a number from 1000: the buffer is untouched
 pub pack-untouched : (row buffer : List ℕ) → 1000 ≤ packReturns row (length buffer) → packLeaves row buffer ≡ buffer
