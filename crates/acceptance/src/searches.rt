@@ -32,13 +32,14 @@ pub fn is_begun(kind: Kind, row: Row) -> bool
     false
 }
 
-// The lowest cell that is blank or filled against its kind, 0 where there is none.
-pub fn lowest_misfilled(kind: Kind, begun: bool, row: Row) -> u32
-    ensures { λ r. ⌜ r ≡ lowestCell (misfilled kind begun) (cellsOf row) ⌝ }
+// The lowest cell that is blank or filled against its kind, of those from one place up to another; 0 where there is none.
+fn lowest_misfilled_in(kind: Kind, begun: bool, row: Row, from: usize, to: usize) -> u32
+    requires { ⌜ (from ≤ to) × (to ≤ cellCount) ⌝ }
+    ensures { λ r. ⌜ searchFrom (misfilled kind begun) (cellsOf row) from ≡ cond (eqb r 0) (searchFrom (misfilled kind begun) (cellsOf row) to) r ⌝ }
 {
     let cells = row.cells;
-    let mut i: usize = 0;
-    while i < CELLS {
+    let mut i: usize = from;
+    while i < to {
         let slot = cells[i];
         let cell = slot.cell;
         let n = (i + 1) as u32;
@@ -48,6 +49,18 @@ pub fn lowest_misfilled(kind: Kind, begun: bool, row: Row) -> u32
         i = i + 1;
     }
     0
+}
+
+// The lowest cell that is blank or filled against its kind, 0 where there is none. The cells of a joint are a part of their own, so that the compiler writes both
+// parts out, with what a kind fills in them.
+pub fn lowest_misfilled(kind: Kind, begun: bool, row: Row) -> u32
+    ensures { λ r. ⌜ r ≡ lowestCell (misfilled kind begun) (cellsOf row) ⌝ }
+{
+    let first = lowest_misfilled_in(kind, begun, row, 0, 13);
+    if first != 0 {
+        return first;
+    }
+    lowest_misfilled_in(kind, begun, row, 13, CELLS)
 }
 
 // The lowest cell with an unknown code, 0 where there is none. Only cells 2, 3 and 13 have codes.

@@ -1,98 +1,42 @@
--- `lowest_misfilled` meets its contract: the loop has come to a cell, and what is left of the search is the search from there.
+-- `lowest_misfilled` meets its contract: the searches of its parts, one after another, are the search of the row.
 -- Assumes nothing.
-use mathlib.Core.Path.{_≡_, refl, sym, _∙_}
-use mathlib.Core.Bool.{true, false}
-use Prim.Native.Nat.{_-_, _≤_}
-use native.Mathlib.Omega.{arith}
+use mathlib.Core.Path.{_≡_, sym, _∙_}
 use borrow.Author.Needs.{needs}
 use lib.ListN.{length, length-map}
 use Rattle.cells.specs.Row.{cellCount, cellsOf}
-use Rattle.cells.specs.declared.row.Row.{Row}
 use Rattle.cells.proofs.RowLaws.{length-cells}
 use Rattle.member.specs.Acceptance.{misfilled}
-use Rattle.acceptance.specs.Search.{searchFrom}
-use Rattle.acceptance.proofs.SearchLaws.{turn, search-end}
+use Rattle.acceptance.proofs.SearchLaws.{part-found, part-passed, part-last}
 use Rattle.acceptance.proofs.searches.lowest_misfilled.Statement.{statement}
 use Rattle.acceptance.proofs.searches.lowest_misfilled.Tie as tie
 
-abbrev Inv-loop : tie.InvT-loop
-Inv-loop kind begun cells i₀ i =
-    let row : Row = record { cells = cells } in
-    (i ≤ cellCount) × (searchFrom (misfilled kind begun) (cellsOf row) 0 ≡ searchFrom (misfilled kind begun) (cellsOf row) i)
+all-cells : (c : tie.Start) → length (cellsOf (c .args .row)) ≡ cellCount
+all-cells c = let row = c .args .row in length-cells row (sym (length-map (row .cells) _) ∙ c .good .1 .1 .0 .1 .1 .0 .1 .0 .1)
 
-abbrev μ-loop : tie.MeasureT-loop
-μ-loop kind begun cells i₀ i = cellCount - i
+lowest-misfilled-in-requires : tie.Need-lowest-misfilled-in-requires
+lowest-misfilled-in-requires c κs = search needs
 
--- the row has 22 cells
-all-cells : (c : tie.At-loop Inv-loop μ-loop) → length (cellsOf (c .before .before .args .row)) ≡ cellCount
-all-cells c =
-    let row = c .before .before .args .row in
-    length-cells row (sym (length-map (row .cells) _) ∙ c .before .before .good .1 .1 .0 .1 .1 .0 .1 .0 .1)
-
-loop-holds : tie.Need-loop-holds Inv-loop μ-loop
-loop-holds c = (omega arith, refl)
-
-mul-slot : tie.Need-mul-slot Inv-loop μ-loop
-mul-slot c = search needs
-
-array-copy-out-slot : tie.Need-array-copy-out-slot Inv-loop μ-loop
-array-copy-out-slot c = search needs
-
-add-n : tie.Need-add-n Inv-loop μ-loop
-add-n c = search needs
-
-cast-n : tie.Need-cast-n Inv-loop μ-loop
-cast-n c = search needs
-
-is-misfilled-requires : tie.Need-is-misfilled-requires Inv-loop μ-loop
-is-misfilled-requires c κs = search needs
-
-returns : tie.Need-returns Inv-loop μ-loop
+returns : tie.Need-returns
 returns c =
-    let l = c .before .before .before .before in
-    let a = l .before .before .args in
-    sym (
-    turn (misfilled (a .kind) (a .begun)) (a .row) (l .loop .i) true (omega (arith, all-cells l)) (l .loop .inv .1)
-    (c .before .is-misfilled .ensures)
-    (c .if1 .taken)
-    )
+    let one = c .before .lowest-misfilled-in in
+    sym (one .ensures ∙ sym (part-found (one .result) _ (c .if1 .taken)))
 
-add-i : tie.Need-add-i Inv-loop μ-loop
-add-i c = search needs
+lowest-misfilled-in-requires-2 : tie.Need-lowest-misfilled-in-requires-2
+lowest-misfilled-in-requires-2 c κs = search needs
 
-loop-less : tie.Need-loop-less Inv-loop μ-loop
-loop-less c = search needs
-
-loop-again : tie.Need-loop-again Inv-loop μ-loop
-loop-again c =
-    let l = c .before .before .before .before in
-    let a = l .before .before .args in (
-      omega arith,
-      turn (misfilled (a .kind) (a .begun)) (a .row) (l .loop .i) false (omega (arith, all-cells l)) (l .loop .inv .1)
-          (c .before .is-misfilled .ensures)
-          (c .if1 .left),
-    )
-
-returns-2 : tie.Need-returns-2 Inv-loop μ-loop
+returns-2 : tie.Need-returns-2
 returns-2 c =
-    let l = c .before in
-    let a = l .before .before .args in
-    sym (l .loop .inv .1 ∙ search-end (misfilled (a .kind) (a .begun)) (cellsOf (a .row)) (l .loop .i) (omega (arith, all-cells l)))
+    let two = c .lowest-misfilled-in2 in
+    let passed = c .before in
+    let one = passed .before .lowest-misfilled-in in
+    let start = passed .before .before in
+    let a = start .args in
+    sym (
+    one .ensures
+    ∙ part-passed (one .result) _ (passed .if1 .left)
+    ∙ two .ensures
+    ∙ part-last (misfilled (a .kind) (a .begun)) (cellsOf (a .row)) (all-cells start) (two .result)
+    )
 
 pub lowest-misfilled-spec : {M : Type 1} → statement M
-lowest-misfilled-spec =
-    tie.close
-    (tie.spec
-    Inv-loop
-    μ-loop
-    loop-holds
-    mul-slot
-    array-copy-out-slot
-    add-n
-    cast-n
-    is-misfilled-requires
-    returns
-    add-i
-    loop-less
-    loop-again
-    returns-2)
+lowest-misfilled-spec = tie.close (tie.spec lowest-misfilled-in-requires returns lowest-misfilled-in-requires-2 returns-2)
