@@ -1,7 +1,7 @@
 -- No unrounded rule holds for an empty reason: over the cells' ranges every denominator is above zero, and where layout and slenderness hold no
 -- difference is cut off at zero.
 -- Assumes nothing.
-use Prim.Native.Nat.{ℕ, _-_, _*_, _≤_, _<_}
+use Prim.Native.Nat.{ℕ, _*_, _≤_, _<_}
 use native.Mathlib.Nat.{mul-pos}
 use native.Mathlib.Omega.{arith}
 use mathlib.Core.Path.{_≡_}
