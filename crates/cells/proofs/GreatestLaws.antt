@@ -1,6 +1,6 @@
 -- What `greatest` finds, for any type of element, any measure, and any choice of those that count.
 -- Assumes nothing.
-use Prim.Native.Nat.{ℕ, _≤_, _<_}
+use Prim.Native.Nat.{ℕ, _/_, _≤_, _<_}
 use native.Mathlib.Nat.{le-refl, le-trans, le-of-lt}
 use mathlib.Core.Path.{_≡_, refl, sym, ap, _∙_}
 use mathlib.Core.Logic.{_⊎_, inl, inr}
@@ -10,6 +10,15 @@ use mathlib.Core.Option.{none, some}
 use borrow.Author.Tests.{leb-true, leb-false}
 use lib.Dec.{leb}
 use Rattle.cells.specs.Greatest.{Among, greatest}
+
+-- By example, with numbers measured by their tens: the greater, and the first of two that are equal.
+pub greater-found : greatest (λ (n : ℕ). true) (λ (n : ℕ). n / 10) (11 ∷ 21 ∷ 12 ∷ []) ≡ some 21
+unfolding greatest
+greater-found = refl
+
+pub first-of-equals : greatest (λ (n : ℕ). true) (λ (n : ℕ). n / 10) (11 ∷ 12 ∷ []) ≡ some 11
+unfolding greatest
+first-of-equals = refl
 
 module _ {A : Type 0} where
   -- where an element of a list stands: before x, at x, or after it

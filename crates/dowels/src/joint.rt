@@ -4,8 +4,8 @@ use sp64::strength::Material;
 use strength::design::undivided_product;
 ghost use Prim.Native.Nat.{min};
 ghost use mathlib.Core.Path.{_≡_};
-ghost use Rattle.rounding.specs.Range.{In, Value};
-ghost use Rattle.sp64.specs.Ranges.{InCount, InDowelCapacity, InForce, InHeight, InUndivided, InWidth};
+ghost use Rattle.rounding.specs.Range.{Value};
+ghost use Rattle.sp64.specs.Ranges.{InCoreCrushing, InCount, InDowelCapacity, InForce, InHeight, InSideCrushing, InUndivided, InWidth};
 ghost use Rattle.sp64.specs.Strength.{MaterialRanges};
 ghost use Rattle.sp64.specs.Joint.{JointRanges, layoutHolds, coreCrushing, sideCrushing, dowelBending, leastTerm, dowelCapacity, dowelCount, jointCount, jointLengthHolds};
 
@@ -26,14 +26,14 @@ fn smaller(x: u64, y: u64) -> u64
 // The terms of g, in hundredths of N.
 fn core_crushing(b: u64, j: Joint) -> u64
     requires { ⌜ InWidth b × JointRanges j ⌝ }
-    ensures { λ r. ⌜ Value (In 12000 60000000) (coreCrushing b j) r ⌝ }
+    ensures { λ r. ⌜ Value InCoreCrushing (coreCrushing b j) r ⌝ }
 {
     j.kc * b * j.diameter
 }
 
 fn side_crushing(j: Joint) -> u64
     requires { ⌜ JointRanges j ⌝ }
-    ensures { λ r. ⌜ Value (In 6000 60000000) (sideCrushing j) r ⌝ }
+    ensures { λ r. ⌜ Value InSideCrushing (sideCrushing j) r ⌝ }
 {
     j.ka * j.side * j.diameter
 }

@@ -18,6 +18,7 @@ pub row-E-accepted : accept rowE ≡ gives memberE
 unfolding acceptKind lowest
 row-E-accepted = refl
 
+-- the same with a joint that is too long
 abbrev pub memberF : Member
 memberF = memberOf Tension true (valuesOf rowF)
 

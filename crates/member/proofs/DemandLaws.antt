@@ -13,7 +13,7 @@ use Rattle.rounding.proofs.Soundness.{Sound}
 use Rattle.sp64.proofs.YesNoChecks.{layout-iff, slenderness-iff}
 use Rattle.cells.specs.Greatest.{Among}
 use Rattle.member.specs.Checks.{Check, YesNo, Strength, yesNo, strength, number, yesNoOf, strengthOf, omitted, Has, layout, slendernessH, slendernessB, jointLength, netTension, sidePieces, bending, shear, bucklingH, bucklingB, compressionBending, tensionBending}
-use Rattle.member.specs.Demand3.{FailsOn, LayoutOrSlenderness, FirstToFail, CountFor, Demand3At}
+use Rattle.member.specs.Demand3.{EachFrom, FailsOn, LayoutOrSlenderness, FirstToFail, CountFor, Demand3At}
 use Rattle.member.specs.Member.{limitOf, countOf}
 use Rattle.member.specs.Unrounded.{Forces, times, Holds}
 use Rattle.member.specs.Verdict.{holds, utilisationOf, used, byStrength, countOnFail, failedOn, verdict}
@@ -70,7 +70,7 @@ module _ (m : Member) (f : Forces) where
   exact slendernessB low = slenderness-iff (limitOf m) (m .lb) (m .width)
   exact jointLength low = absurd (omega arith)
 
-  module _ {g : Check → ℕ} (s : ChecksSound g) (k : Check → ℕ) (big : (c : Check) → g c ≤ k c) where
+  module _ {g : Check → ℕ} (s : ChecksSound g) (k : Check → ℕ) (big : EachFrom g k) where
     -- a yes-or-no check that holds, holds unrounded
     yes-no-holds : (c : YesNo) → omitted m (yesNo c) ≡ false → holds m c ≡ true → Holds m f (yesNo c)
     yes-no-holds layout kept e = exact layout (lit≤ tt) .0 e

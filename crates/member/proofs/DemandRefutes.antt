@@ -15,7 +15,7 @@ use Rattle.cells.specs.declared.row.Cell.{Cell}
 use Rattle.sp64.specs.Joint.{ExactJointLength}
 use Rattle.member.specs.Acceptance.{accept}
 use Rattle.member.specs.Checks.{Check, yesNo, strength, Has, layout, slendernessH, slendernessB, jointLength, bending, compressionBending}
-use Rattle.member.specs.Demand3.{demandFactor, leastFactor, LayoutOrSlenderness, CountFor, Demand3, KeepsDemand3}
+use Rattle.member.specs.Demand3.{demandFactor, keptFrom, LayoutOrSlenderness, CountFor, Demand3, KeepsDemand3}
 use Rattle.member.specs.Unrounded.{forcesOf, Holds}
 use Rattle.member.specs.Verdict.{judgeBy, verdict}
 use Rattle.member.specs.WorkedRows.{rowA}
@@ -28,7 +28,7 @@ use Rattle.member.proofs.DemandLaws.{strength-high}
 abbrev says : Bool → ℕ → ℕ → ℕ → Verdict
 says passes check utilisation count = record { passes = passes; check = check; utilisation = utilisation; count = count }
 
--- A row that is not refused by the rules, refused, whatever the refusal and the factors: so row A, and so every row of `AcceptedRows`.
+-- A refusal as the answer to a row that the rules accept, whatever the refusal and the factors; so of row A.
 pub refused-breaks : (cells : List Cell) (m : Member) → accept cells ≡ gives m → (refusal : Refusal) (k : Check → ℕ) → KeepsDemand3 cells (Refused refusal) k → ⊥
 refused-breaks cells m given refusal k keeps =
     let answer : Refused refusal ≡ Judged (keeps m given .0) = keeps m given .1 in
@@ -70,10 +70,10 @@ row-E-with-24 p c u d = let le : 25 ≤ 24 = d .count-above refl kept-E 25 count
 pub row-E-with-26 : (passes : Bool) (check utilisation : ℕ) → Demand3 memberE (says passes check utilisation 26) demandFactor → ⊥
 row-E-with-26 p c u d = let le : 26 ≤ 25 = d .count-below refl kept-E 25 count-E-scaled in absurd (omega arith)
 
--- A row whose verdict by the rules breaks demand 3 at a thousandth less than the least factors.
-pub edge-breaks-less : Demand3 edgeMember (verdict edgeMember) (λ (c : Check). leastFactor c - 1) → ⊥
+-- A row of kind 4 whose verdict by the rules breaks demand 3 where the factor of check 11 is a thousandth less, whatever the others are.
+pub edge-breaks-less : (k : Check → ℕ) → k (strength compressionBending) ≡ keptFrom (strength compressionBending) - 1 → Demand3 edgeMember (verdict edgeMember) k → ⊥
 unfolding judgeBy greatest
-edge-breaks-less d =
+edge-breaks-less k e d =
     d .fail (strength compressionBending) (record { of-kind = inr (inr (inr (inl refl))); kept = refl }) (λ low. absurd (omega arith))
     (record { fails = refl; names = refl })
-    (record { share = lit< tt; sum = lit≤ tt })
+    (rw e (record { share = lit< tt; sum = lit≤ tt }))

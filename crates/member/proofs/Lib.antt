@@ -1,9 +1,9 @@
+pub mod AcceptedRows
 pub mod AcceptanceLaws
 pub mod VerdictLaws
 pub mod DemandLaws
 pub mod RowChecks
 pub mod KeepsDemand3
-pub mod AcceptedRows
 pub mod DemandRefutes
 pub mod Lighter
 pub mod DemandMeaning

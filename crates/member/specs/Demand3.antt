@@ -17,17 +17,17 @@ use Rattle.member.specs.declared.verdict.Answer.{Answer}
 use Rattle.member.specs.declared.verdict.Answer.the-variants.{Judged}
 use Rattle.member.specs.declared.verdict.Verdict.{Verdict}
 
--- the factor of N, M and Q, in thousandths, with which a check that failed must fail unrounded
+-- the factor of N, M and Q, in thousandths, with which a check that failed must fail unrounded; checks 1 to 3, which round nothing, make no use of it
 abbrev pub demandFactor : Check → ℕ
 demandFactor c = 1005
 
--- the least such factors that the verdict on every row keeps
-abbrev pub leastFactor : Check → ℕ
-leastFactor c = 1003
+-- the factors from which on the verdict on every row keeps demand 3
+abbrev pub keptFrom : Check → ℕ
+keptFrom c = 1003
 
--- no check's factor is below its least
-abbrev pub FromLeast : (Check → ℕ) → Type 0
-FromLeast k = (c : Check) → leastFactor c ≤ k c
+-- no check's factor is below another given for it
+abbrev pub EachFrom : (Check → ℕ) → (Check → ℕ) → Type 0
+EachFrom least k = (c : Check) → least c ≤ k c
 
 -- the verdict is a fail and names check c
 pub record FailsOn (v : Verdict) (c : Check) : Type 0 where

@@ -72,7 +72,7 @@ governedBy m (some c) = used m c
 abbrev pub hasStrength : Member → Strength → Bool
 hasStrength m c = not (omitted m (strength c))
 
--- of the checks that the row has, the one of greatest utilisation, the lowest number among equals
+-- of the checks that the row has, the one of greatest utilisation, the first among equals, which is the lowest number where a list rises
 abbrev pub governing : Member → List Strength → Governing
 governing m checks = governedBy m (greatest (hasStrength m) (utilisationOf m) checks)
 

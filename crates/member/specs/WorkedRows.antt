@@ -1,4 +1,4 @@
--- The worked rows A to H of document 01, cell by cell, a row for each case of a kind that none of them is, and a row on the edge of demand 3.
+-- The worked rows A to H of document 01, cell by cell; rows of kind 1 without a joint and of kind 5, which A to H lack; and a row of kind 4 on the edge of demand 3.
 -- Assumes nothing.
 use Prim.Native.Nat.{ℕ}
 use mathlib.Core.List.{List, [], _∷_, _++_, map}

@@ -1,7 +1,8 @@
+// The answer of acceptance.
 use crate::member::Member;
 use cells::refusal::Refusal;
 
-// What acceptance answers: why a row is refused, or the member that it describes.
+// Why a row is refused, or the member that it describes.
 pub enum Accepted {
     Refused(Refusal),
     Member(Member),

@@ -59,13 +59,13 @@ module _ {limit L s : ℕ} (length : InLength L) (side : InSide s) (most : InLim
 -- a dowel's terms
 module _ {b : ℕ} {j : Joint} {mat : Material} (width : InWidth b) (jr : JointRanges j) (known : MaterialRanges mat) where
   pub core-crushing-proper : Proper (exactTerm (coreCrushing b j) mat)
-  core-crushing-proper = proper (lit< tt) (core-crushing-near width jr known)
+  core-crushing-proper = proper (lit< tt) (core-crushing-near jr known width)
 
   pub side-crushing-proper : Proper (exactTerm (sideCrushing j) mat)
-  side-crushing-proper = proper (lit< tt) (side-crushing-near width jr known)
+  side-crushing-proper = proper (lit< tt) (side-crushing-near jr known)
 
   pub dowel-bending-proper : Proper (exactTerm (dowelBending j) mat)
-  dowel-bending-proper = proper (lit< tt) (dowel-bending-near width jr known)
+  dowel-bending-proper = proper (lit< tt) (dowel-bending-near jr known)
 
 module _ {mat : Material} (known : MaterialRanges mat) where
   pub strength-proper : (stress : Stress) → Proper (exactStrength stress mat)

@@ -8,7 +8,6 @@ use mathlib.Core.Logic.{_↔_}
 use mathlib.Core.Bool.{true, false}
 use borrow.Author.Tests.{leb-true, leb-false}
 use lib.Dec.{lit<, lit≤}
-use Rattle.rounding.specs.Range.{In}
 use Rattle.rounding.specs.Fraction.{Fraction, whole, scaled}
 use Rattle.rounding.proofs.RoundingLaws.{rounding-up, up-le, lt-up}
 use Rattle.rounding.proofs.Ranges.{in-mul}
@@ -16,7 +15,7 @@ use Rattle.rounding.proofs.LeastLaws.{upward-both, least-both}
 use Rattle.rounding.proofs.Near.{Near}
 use Rattle.sp64.specs.declared.strength.Material.{Material}
 use Rattle.sp64.specs.declared.joint.Joint.{Joint}
-use Rattle.sp64.specs.Ranges.{InUndivided, InWidth, InForce, InDowelCapacity, InCount}
+use Rattle.sp64.specs.Ranges.{InCoreCrushing, InSideCrushing, InUndivided, InWidth, InForce, InDowelCapacity, InCount}
 use Rattle.sp64.specs.Strength.{MaterialRanges}
 use Rattle.sp64.specs.Joint.{JointRanges, coreCrushing, sideCrushing, dowelBending, leastTerm, roundedTerm, dowelCapacity, dowelCount, jointCount, columns, lengthOf, jointLengthHolds, exactTerm, Carry, Suffices, LeastCount, LeastColumns, ExactJointLength}
 use Rattle.sp64.proofs.StrengthLaws.{undivided-down-in}
@@ -40,23 +39,19 @@ suffices-iff N b j mat k =
     )
 
 -- the terms over the cells' ranges
-pub core-crushing-in : {b : ℕ} {j : Joint} → InWidth b → JointRanges j → In 12000 60000000 (coreCrushing b j)
+pub core-crushing-in : {b : ℕ} {j : Joint} → InWidth b → JointRanges j → InCoreCrushing (coreCrushing b j)
 core-crushing-in width jr = in-mul (in-mul (jr .kc) width) (jr .diameter)
 
-pub side-crushing-in : {j : Joint} → JointRanges j → In 6000 60000000 (sideCrushing j)
+pub side-crushing-in : {j : Joint} → JointRanges j → InSideCrushing (sideCrushing j)
 side-crushing-in jr = in-mul (in-mul (jr .ka) (jr .side)) (jr .diameter)
 
 pub dowel-bending-in : {j : Joint} → JointRanges j → InUndivided (dowelBending j)
 dowel-bending-in jr = let d2 = in-mul (jr .diameter) (jr .diameter) in omega (arith, in-mul (jr .kb) d2, in-mul (jr .km) d2)
 
--- and so g, the least of them
-pub least-term-in : {b : ℕ} {j : Joint} → InWidth b → JointRanges j → InUndivided (leastTerm b j)
-least-term-in width jr = omega (arith, core-crushing-in width jr, side-crushing-in jr, dowel-bending-in jr)
-
 -- the terms, rounded beside unrounded
-module _ {b : ℕ} {j : Joint} {mat : Material} (width : InWidth b) (jr : JointRanges j) (known : MaterialRanges mat) where
-  pub core-crushing-near : Near 7155 1000 1001 (roundedTerm (coreCrushing b j) mat) (exactTerm (coreCrushing b j) mat)
-  core-crushing-near = term-near known (omega (arith, core-crushing-in width jr))
+module _ {j : Joint} {mat : Material} (jr : JointRanges j) (known : MaterialRanges mat) where
+  pub core-crushing-near : {b : ℕ} → InWidth b → Near 7155 1000 1001 (roundedTerm (coreCrushing b j) mat) (exactTerm (coreCrushing b j) mat)
+  core-crushing-near width = term-near known (omega (arith, core-crushing-in width jr))
 
   pub side-crushing-near : Near 7155 1000 1001 (roundedTerm (sideCrushing j) mat) (exactTerm (sideCrushing j) mat)
   side-crushing-near = term-near known (omega (arith, side-crushing-in jr))
@@ -64,13 +59,9 @@ module _ {b : ℕ} {j : Joint} {mat : Material} (width : InWidth b) (jr : JointR
   pub dowel-bending-near : Near 7155 1000 1001 (roundedTerm (dowelBending j) mat) (exactTerm (dowelBending j) mat)
   dowel-bending-near = term-near known (dowel-bending-in jr .low)
 
-  -- and so T
-  pub dowel-near : Near 7155 1000 1001 (dowelCapacity b j mat) (exactTerm (leastTerm b j) mat)
-  dowel-near = rw (capacity-at-once b j mat) (term-near known (least-term-in width jr .low))
-
   -- T over the cells' ranges
-  pub capacity-in : InDowelCapacity (dowelCapacity b j mat)
-  capacity-in =
+  pub capacity-in : {b : ℕ} → InWidth b → InDowelCapacity (dowelCapacity b j mat)
+  capacity-in width =
       omega (
         arith,
         undivided-down-in known 1000000 (lit< tt) (core-crushing-in width jr),
@@ -89,7 +80,7 @@ dowel-count-in {N} {T} force capacity =
 
 -- and so over the cells' ranges
 pub count-in : {N b : ℕ} {j : Joint} {mat : Material} → InForce N → InWidth b → JointRanges j → MaterialRanges mat → InCount (jointCount N b j mat)
-count-in force width jr known = dowel-count-in force (capacity-in width jr known)
+count-in force width jr known = dowel-count-in force (capacity-in jr known width)
 
 -- The count lies between the unrounded least count for N and that for k thousandths of N, for every k from 1003: so it does in each term.
 module _ (N : ℕ) {b : ℕ} {j : Joint} {mat : Material} (width : InWidth b) (jr : JointRanges j) (known : MaterialRanges mat) where
@@ -97,19 +88,19 @@ module _ (N : ℕ) {b : ℕ} {j : Joint} {mat : Material} (width : InWidth b) (j
   count-suffices : Suffices (whole N) b j mat (jointCount N b j mat)
   count-suffices =
       let T = dowelCapacity b j mat in
-      let some : 0 < T = omega (arith, capacity-in width jr known) in
+      let some : 0 < T = omega (arith, capacity-in jr known width) in
       record {
-        core = term-above N (lit< tt) (lit≤ tt) (core-crushing-near width jr known) T some (omega arith);
-        side = term-above N (lit< tt) (lit≤ tt) (side-crushing-near width jr known) T some (omega arith);
-        bending = term-above N (lit< tt) (lit≤ tt) (dowel-bending-near width jr known) T some (omega arith);
+        core = term-above N (core-crushing-near jr known width) T some (omega arith);
+        side = term-above N (side-crushing-near jr known) T some (omega arith);
+        bending = term-above N (dowel-bending-near jr known) T some (omega arith);
       }
 
   -- and no fewer suffice for k thousandths of N
   count-least : (k : ℕ) → 1003 ≤ k → (n : ℕ) → Suffices (scaled k (whole N)) b j mat n → jointCount N b j mat ≤ n
   count-least k big n s =
-      let core = term-below N (lit< tt) (lit≤ tt) (core-crushing-near width jr known) k big n (s .core) in
-      let side = term-below N (lit< tt) (lit≤ tt) (side-crushing-near width jr known) k big n (s .side) in
-      let bending = term-below N (lit< tt) (lit≤ tt) (dowel-bending-near width jr known) k big n (s .bending) in
+      let core = term-below N (core-crushing-near jr known width) (lit< tt) (lit≤ tt) k big n (s .core) in
+      let side = term-below N (side-crushing-near jr known) (lit< tt) (lit≤ tt) k big n (s .side) in
+      let bending = term-below N (dowel-bending-near jr known) (lit< tt) (lit≤ tt) k big n (s .bending) in
       min-has (λ T. dowelCount N T ≤ n) _ _ core (min-has (λ T. dowelCount N T ≤ n) _ _ side bending)
 
   pub count-above : (n : ℕ) → LeastCount (whole N) b j mat n → n ≤ jointCount N b j mat
@@ -130,12 +121,12 @@ count-exists N {b} {j} {mat} real width jr known =
     let side = exactTerm (sideCrushing j) mat in
     let bending = exactTerm (dowelBending j) mat in
     let two =
-    least-both (term-exists N real (lit< tt) (side-crushing-near width jr known))
-    (term-exists N real (lit< tt) (dowel-bending-near width jr known))
+    least-both (term-exists N real (lit< tt) (side-crushing-near jr known))
+    (term-exists N real (lit< tt) (dowel-bending-near jr known))
     (carry-upward N side)
     (carry-upward N bending) in
     let all =
-    least-both (term-exists N real (lit< tt) (core-crushing-near width jr known)) two (carry-upward N core)
+    least-both (term-exists N real (lit< tt) (core-crushing-near jr known width)) two (carry-upward N core)
     (upward-both (carry-upward N side) (carry-upward N bending)) in
     record {
       holds = record { core = all .holds .0; side = all .holds .1 .0; bending = all .holds .1 .1 };

@@ -47,8 +47,8 @@ term-exists N {x = x} real some near =
       least = λ k h. up-le pos (omega (arith, h));
     }
 
--- The same term with r, the rounded one, beside it: rounding takes at most g thousandths off.
-module _ (N : ℕ) {m g r : ℕ} {x : Fraction} (pos : 0 < m) (few : g ≤ 1003) (near : Near m 1000 g r x) where
+-- The same term with r, the rounded one, beside it: x is at most g thousandths of r.
+module _ (N : ℕ) {m g r : ℕ} {x : Fraction} (near : Near m 1000 g r x) where
   -- the count by r, and by every smaller T, carries N in the term
   pub term-above : (T : ℕ) → 0 < T → T ≤ r → Carry (whole N) x (dowelCount N T)
   term-above T some le =
@@ -61,8 +61,8 @@ module _ (N : ℕ) {m g r : ℕ} {x : Fraction} (pos : 0 < m) (few : g ≤ 1003)
       )
 
   -- and no fewer than the count by r carry k thousandths of N in it
-  pub term-below : (k : ℕ) → 1003 ≤ k → (n : ℕ) → Carry (scaled k (whole N)) x n → dowelCount N r ≤ n
-  term-below k big n h =
+  pub term-below : 0 < m → g ≤ 1003 → (k : ℕ) → 1003 ≤ k → (n : ℕ) → Carry (scaled k (whole N)) x n → dowelCount N r ≤ n
+  term-below pos few k big n h =
       let some : 0 < r = omega (arith, near .low) in
       up-le (omega arith)
       (le-of-mul-le-mul-right {k = k * x .den}

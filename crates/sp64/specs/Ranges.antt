@@ -68,6 +68,14 @@ InStrength stress = In (leastStrength stress) (greatestStrength stress)
 abbrev pub InAxialStrength : ℕ → Type 0
 InAxialStrength = In 4770 35200
 
+-- crushing of the core, in hundredths of N
+abbrev pub InCoreCrushing : ℕ → Type 0
+InCoreCrushing = In 12000 60000000
+
+-- crushing of a side piece, in hundredths of N
+abbrev pub InSideCrushing : ℕ → Type 0
+InSideCrushing = In 6000 60000000
+
 -- a strength of Table 7 in kPa, or g in hundredths of N
 abbrev pub InUndivided : ℕ → Type 0
 InUndivided = In 3600 8000000

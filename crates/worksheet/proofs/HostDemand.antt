@@ -1,4 +1,4 @@
--- Demand 3 for the host, at every factor from the least of its check.
+-- Demand 3 for the host, at every factor from `keptFrom` on.
 -- Assumes nothing.
 use Prim.Native.Nat.{ℕ}
 use mathlib.Core.List.{List}
@@ -10,7 +10,7 @@ use Rattle.worksheet.proofs.ReadRows.{row-as-read}
 use Rattle.cells.specs.declared.row.Cell.{Cell}
 use Rattle.member.specs.Acceptance.{accept}
 use Rattle.member.specs.Checks.{Check}
-use Rattle.member.specs.Demand3.{FromLeast}
+use Rattle.member.specs.Demand3.{keptFrom, EachFrom}
 use Rattle.member.specs.Verdict.{verdict}
 use Rattle.member.specs.declared.member.Member.{Member}
 use Rattle.member.proofs.KeepsDemand3.{keeps-demand-3}
@@ -23,7 +23,7 @@ checked row answer cells m read given room = rw (read, given, room) (refl, refl)
 
 -- what checking returns and leaves keeps demand 3
 pub host-keeps-demand-3 : (row answer : List ℕ) (returned : ℕ) (left : List ℕ) → returned ≡ checkReturns row (length answer) → left ≡ checkLeaves row answer
-    → (k : Check → ℕ) → FromLeast k → HostKeepsDemand3 row answer returned left k
+    → (k : Check → ℕ) → EachFrom keptFrom k → HostKeepsDemand3 row answer returned left k
 host-keeps-demand-3 row answer returned left e b k big cells m read given room =
     let is = checked row answer cells m read given room in
     (verdict m, e ∙ is .0, b ∙ is .1, keeps-demand-3 cells m (row-as-read row cells read .long) given k big)

@@ -1,4 +1,4 @@
--- Which refusals an entry can return, and for which cell: checking 1 to 5, packing 1 and 5, none for a cell above 22.
+-- Which refusals an entry can return, and for which cell: a number from 1 to 5, and no cell above 22.
 -- Assumes nothing.
 use Prim.Native.Nat.{ℕ, _+_, _*_, _^_, _≤_}
 use mathlib.Core.Bool.{Bool, true, false, cond}
@@ -124,7 +124,7 @@ narrow-none n (Whole value ∷ cells) narrow = rw (lt-ltb value (2 ^ valueBits) 
 pub none-wide : (bytes : List ℕ) (cells : List Cell) → readHostRow bytes ≡ gives cells → lowestWide cells ≡ 0
 none-wide bytes cells e = narrow-none 1 cells (row-as-read bytes cells e .narrow)
 
--- and packing with 1 or 5
+-- and so does packing; that it is with 1 or 5 alone says `pack-refusals`
 pub pack-numbered : (row : List ℕ) (room : ℕ) → Numbered 1 5 (hostPack row room)
 pack-numbered row room =
     then-numbered 1 5 (readHostRow row) (λ (cells : List Cell). packResult cells room)

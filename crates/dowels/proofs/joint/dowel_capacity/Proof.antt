@@ -19,7 +19,7 @@ returns c =
     let a = c .before .before .args in
     let known = c .before .before .pre in
     let exact : c .undivided-product .result / 1000000 ≡ dowelCapacity (a .b) (a .j) (a .m) = cc (capacity-at-once (a .b) (a .j) (a .m)) in
-    record { exact = exact; range = rw exact (capacity-in (known .0) (known .1) (known .2)) }
+    record { exact = exact; range = rw exact (capacity-in (known .1) (known .2) (known .0)) }
 
 pub dowel-capacity-spec : {M : Type 1} → statement M
 dowel-capacity-spec = tie.close (tie.spec least-term-requires undivided-product-requires returns)

@@ -2,12 +2,11 @@
 -- Assumes nothing.
 use borrow.Author.Needs.{needs}
 use mathlib.Core.Path.{sym, ap, _∙_}
+use lib.Dec.{lit≤}
 use denote.Ref.{now}
 use Rattle.cells.specs.Row.{cellsOf}
-use Rattle.member.specs.Demand3.{demandFactor}
 use Rattle.member.specs.Verdict.{answerResult}
 use Rattle.member.specs.declared.verdict.Answer.{Answer}
-use Rattle.member.proofs.KeepsDemand3.{demand-factor-kept}
 use Rattle.worksheet.proofs.HostDemand.{host-keeps-demand-3}
 use Rattle.cells.proofs.ResultLaws.{refused-result, done-result}
 use Rattle.hosting.proofs.EntryLaws.{check-unread, check-refused, check-judged}
@@ -50,7 +49,7 @@ returns c =
     let law = check-unread (now (a .row)) (now (a .answer)) (c .before .before .outcome .given .0 .0) unread in
     let code = c .refusal-code .ensures ∙ law .0 in
     let left = law .1 in
-    (code, (left, host-keeps-demand-3 (now (a .row)) (now (a .answer)) _ _ code left demandFactor demand-factor-kept))
+    (code, (left, host-keeps-demand-3 (now (a .row)) (now (a .answer)) _ _ code left _ (λ c. lit≤ tt)))
 
 returns-2 : tie.Need-returns-2
 returns-2 c =
@@ -63,7 +62,7 @@ returns-2 c =
     let law = check-refused (now (a .row)) (now (a .answer)) _ (c .before .before .checked .given .0 .0) given refused in
     let code = c .refusal-code2 .ensures ∙ law .0 in
     let left = law .1 in
-    (code, (left, host-keeps-demand-3 (now (a .row)) (now (a .answer)) _ _ code left demandFactor demand-factor-kept))
+    (code, (left, host-keeps-demand-3 (now (a .row)) (now (a .answer)) _ _ code left _ (λ c. lit≤ tt)))
 
 same-length : tie.Need-same-length
 same-length c = search needs
@@ -80,7 +79,7 @@ returns-3 c =
     let law = check-judged (now (a .row)) (now (a .answer)) _ _ given judged in
     let code = v .answer-verdict .ensures .0 ∙ law .0 in
     let left = v .answer-verdict .ensures .1 ∙ law .1 in
-    (code, (left, host-keeps-demand-3 (now (a .row)) (now (a .answer)) _ _ code left demandFactor demand-factor-kept))
+    (code, (left, host-keeps-demand-3 (now (a .row)) (now (a .answer)) _ _ code left _ (λ c. lit≤ tt)))
 
 pub check-host-row-spec : {M : Type 1} → statement M
 check-host-row-spec =
