@@ -4,8 +4,8 @@ use mathlib.Core.Path.{_≡_, refl}
 use mathlib.Core.List.{[], _∷_}
 use Prim.Native.Nat.{ℕ, _^_, _<_}
 use native.Mathlib.Omega.{arith}
-use lib.Ieee.{ofInt, toBits}
-use Rattle.cells.specs.HostBytes.{wordBytes, wordAt, floatBytes, wholeFloat}
+use lib.Ieee.{ofInt, ofBits, toBits}
+use Rattle.cells.specs.HostBytes.{wordBytes, wordAt, floatBytes, floatAt, wholeFloat}
 
 -- The first byte is the lowest.
 pub first-lowest : wordAt (1 ∷ 0 ∷ 0 ∷ 0 ∷ 0 ∷ 0 ∷ 0 ∷ 0 ∷ []) 0 ≡ 1
@@ -20,3 +20,8 @@ word-back w few = omega arith
 pub one-in-bytes : floatBytes (wholeFloat 1) ≡ 0 ∷ 0 ∷ 0 ∷ 0 ∷ 0 ∷ 0 ∷ 0xf0 ∷ 0x3f ∷ []
 unfolding wordBytes toBits ofInt
 one-in-bytes = refl
+
+-- And back, from any place.
+pub one-from-its-bytes : floatAt (7 ∷ 0 ∷ 0 ∷ 0 ∷ 0 ∷ 0 ∷ 0 ∷ 0xf0 ∷ 0x3f ∷ []) 1 ≡ wholeFloat 1
+unfolding ofInt ofBits
+one-from-its-bytes = refl

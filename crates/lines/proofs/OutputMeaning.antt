@@ -32,6 +32,11 @@ lines-step number (byte ∷ bytes) some =
     let moves = taken-some left some in
     ap (λ (lines : List (List ℕ)). lineFor number left ∷ lines) (lines-enough (length bytes) (suc number) (drop (taken left) left) (omega arith))
 
+-- so of all lines: the first row has number 1, and the next number 2
+pub lines-of : (bytes : List ℕ) → 0 < length bytes → let rest = drop (taken bytes) bytes in
+    linesOf bytes ≡ lineFor 1 bytes ∷ linesFrom (length rest) 2 rest
+lines-of bytes some = lines-step 1 bytes some
+
 -- an input of at most 65,536 bytes is printed whole
 pub output-whole : (input : List ℕ) → length input ≤ 65536 → output input ≡ linesOf input
 output-whole input within = ap linesOf (take-all mostInput input (omega arith))

@@ -48,7 +48,7 @@ passes-test true false e h = sym h
 passes-test false true e h = refl
 passes-test false false e h = e
 
-both-true : (x y : Bool) → x && y ≡ true → (x ≡ true) × (y ≡ true)
+pub both-true : (x y : Bool) → x && y ≡ true → (x ≡ true) × (y ≡ true)
 both-true true true e = (refl, refl)
 both-true true false e = (refl, e)
 both-true false true e = (e, refl)

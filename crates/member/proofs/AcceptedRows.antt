@@ -3,12 +3,19 @@
 use mathlib.Core.Path.{_≡_, refl}
 use mathlib.Core.Bool.{true, false}
 use Rattle.cells.specs.Lowest.{lowest}
+use lib.ListN.{length}
 use Rattle.cells.specs.Refusal.{gives}
+use Rattle.cells.specs.Row.{cellCount}
 use Rattle.member.specs.Acceptance.{acceptKind, accept}
 use Rattle.member.specs.Member.{valuesOf, memberOf}
 use Rattle.member.specs.WorkedRows.{rowA, rowB, rowE, rowF, rowWithoutJoint, rowOfKind5, edgeRow}
 use Rattle.member.specs.declared.kind.Kind.the-variants.{Tension, Bending, Compression, CompressionBending, TensionBending}
 use Rattle.member.specs.declared.member.Member.{Member}
+
+-- they are rows: of 22 cells each
+pub rows-whole : (length rowE ≡ cellCount) × (length rowF ≡ cellCount) × (length rowWithoutJoint ≡ cellCount) × (length rowA ≡ cellCount)
+    × (length rowB ≡ cellCount) × (length edgeRow ≡ cellCount) × (length rowOfKind5 ≡ cellCount)
+rows-whole = (refl, refl, refl, refl, refl, refl, refl)
 
 -- kind 1 with a joint
 abbrev pub memberE : Member

@@ -25,7 +25,8 @@ use Rattle.member.specs.declared.verdict.Verdict.{Verdict}
 use Rattle.member.proofs.AcceptedRows.{memberA, memberE, memberF, edgeMember, row-A-accepted}
 use Rattle.member.proofs.DemandLaws.{strength-high}
 
-abbrev says : Bool → ℕ → ℕ → ℕ → Verdict
+-- a verdict by its four values
+abbrev pub says : Bool → ℕ → ℕ → ℕ → Verdict
 says passes check utilisation count = record { passes = passes; check = check; utilisation = utilisation; count = count }
 
 -- A refusal as the answer to a row that the rules accept, whatever the refusal and the factors; so of row A.

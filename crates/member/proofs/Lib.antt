@@ -12,3 +12,4 @@ pub mod RefusalMeaning
 pub mod ChecksMeaning
 pub mod JointMeaning
 pub mod VerdictRange
+pub mod FactorEdges

@@ -1,23 +1,27 @@
--- What a refusal of the row check says: which rule, in which order, and that the cell named is the lowest that breaks it.
+-- What a refusal of the row check says: which rule, in which order, and that the cell named is the lowest that breaks it; and when a joint is begun.
 -- Assumes nothing.
 use Prim.Native.Nat.{ℕ, _+_, _<_}
 use native.Mathlib.Omega.{arith}
-use mathlib.Core.Path.{_≡_, refl, sym, subst}
-use mathlib.Core.Logic.{_⊎_, inl, inr}
-use mathlib.Core.Bool.{Bool, true, false}
+use mathlib.Core.Path.{_≡_, refl, sym, _∙_, subst}
+use mathlib.Core.Logic.{_⊎_, inl, inr, _↔_}
+use mathlib.Core.Bool.{Bool, true, false, true≢false}
 use mathlib.Core.List.{List}
 use lib.ListN.{length, getD}
+use borrow.Author.Tests.{ne-eqb}
+use Rattle.cells.specs.Lowest.{lowest}
 use Rattle.cells.specs.Refusal.{Result, gives, refuses}
 use Rattle.cells.specs.declared.row.Cell.{Cell}
 use Rattle.cells.specs.declared.row.Cell.the-variants.{Blank, Whole}
 use Rattle.cells.proofs.LowestLaws.{Passes, FailsAt, lowest-meaning}
-use Rattle.member.specs.Acceptance.{misfilled, unknownCode, outOfRange, lowestCell, isBegun, acceptKind, acceptCode, acceptFirst, accept}
+use Rattle.member.specs.Acceptance.{begins, misfilled, unknownCode, outOfRange, lowestCell, isBegun, acceptKind, acceptCode, acceptFirst, accept}
+use Rattle.member.specs.Cells.{filled, optional}
 use Rattle.member.specs.Kind.{kindOf}
+use Rattle.member.specs.WorkedRows.{rowHalfJoint}
 use Rattle.member.specs.declared.kind.Kind.{Kind}
 use Rattle.member.specs.declared.kind.KindCode.{KindCode}
 use Rattle.member.specs.declared.kind.KindCode.the-variants.{Known, Unknown}
 use Rattle.member.specs.declared.member.Member.{Member}
-use Rattle.member.proofs.AcceptanceLaws.{fill-refused, code-refused, range-refused, none-refused}
+use Rattle.member.proofs.AcceptanceLaws.{both-true, fill-refused, code-refused, range-refused, none-refused}
 
 -- a test of the cells of a row, each with its number
 module _ (cells : List Cell) (test : ℕ → Cell → Bool) where
@@ -49,6 +53,34 @@ module _ (cells : List Cell) (test : ℕ → Cell → Bool) where
             λ e. absurd (omega arith),
             record { place = k; is = refl; inside = r .inside; broken = r .failing Blank; lower = λ j h. r .below j Blank h },
           )
+
+-- By example: half a joint is refused for its lowest blank cell, though that is the first of it.
+pub half-joint-refused : accept rowHalfJoint ≡ refuses 2 14
+unfolding acceptKind lowest
+half-joint-refused = refl
+
+-- a cell of which the kind fills all or none is filled
+pub record Begins (kind : Kind) (cells : List Cell) : Type 0 where
+  pub place : ℕ
+  pub inside : place < length cells
+  pub is-filled : filled (getD cells place Blank) ≡ true
+  pub is-optional : optional kind (1 + place) ≡ true
+
+module _ (kind : Kind) (cells : List Cell) where
+  -- a joint is begun exactly where there is such a cell
+  pub begun-iff : isBegun kind cells ≡ true ↔ Begins kind cells
+  begun-iff = by (found cells (begins kind))
+    where
+      by : Found cells (begins kind) → isBegun kind cells ≡ true ↔ Begins kind cells
+      by (inl (none, kept)) = (
+        λ e. absurd (true≢false (sym e ∙ rw none refl)),
+        λ b. absurd (true≢false (sym (rw (b .is-filled, b .is-optional) refl) ∙ kept (b .place) (b .inside))),
+      )
+      by (inr (cell, e, some, named)) = (
+        λ begun. let both = both-true _ _ (named .broken) in
+            record { place = named .place; inside = named .inside; is-filled = both .0; is-optional = both .1 },
+        λ b. rw (← e, ne-eqb cell 0 some) refl,
+      )
 
 module _ (kind : Kind) (cells : List Cell) where
   -- the tests of refusals 2, 3 and 4

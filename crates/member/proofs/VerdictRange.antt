@@ -10,6 +10,8 @@ use mathlib.Core.List.{List}
 use lib.Dec.{leb, lit≤}
 use lib.ListN.{length}
 use Rattle.rounding.specs.Range.{In}
+use Rattle.cells.specs.Greatest.{greatest}
+use Rattle.cells.specs.Lowest.{lowest}
 use Rattle.cells.specs.Refusal.{gives}
 use Rattle.cells.specs.Row.{cellCount}
 use Rattle.cells.specs.declared.row.Cell.{Cell}
@@ -17,11 +19,12 @@ use Rattle.sp64.specs.Buckling.{eulerCapacity}
 use Rattle.sp64.specs.Combined.{axialShare, secondOrderMoment, combined, compressionBending as axialWithMoment}
 use Rattle.sp64.specs.declared.tables.Stress.the-variants.{Compression}
 use Rattle.sp64.proofs.JointLaws.{count-in}
-use Rattle.member.specs.Acceptance.{accept}
+use Rattle.member.specs.Acceptance.{acceptKind, accept}
 use Rattle.member.specs.Checks.{Check, YesNo, Strength, yesNo, strength, number, layout, slendernessH, slendernessB, jointLength, netTension, sidePieces, bending, shear, bucklingH, bucklingB, compressionBending, tensionBending}
+use Rattle.member.specs.EdgeRows.{mostDowels, mostUsed}
 use Rattle.member.specs.Member.{countOf, NRof, MRof}
 use Rattle.member.specs.Ranges.{RangesOf}
-use Rattle.member.specs.Verdict.{utilisationOf, countOnFail, verdict}
+use Rattle.member.specs.Verdict.{utilisationOf, countOnFail, judgeBy, verdict, checkRow}
 use Rattle.member.specs.declared.member.Member.{Member}
 use Rattle.member.specs.declared.verdict.Verdict.{Verdict}
 use Rattle.member.proofs.AcceptanceLaws.{accept-ranges}
@@ -95,3 +98,12 @@ module _ (m : Member) where
 -- the verdict on every row that is not refused
 pub accepted-verdict-range : (cells : List Cell) (m : Member) → length cells ≡ cellCount → accept cells ≡ gives m → VerdictRange (verdict m)
 accepted-verdict-range cells m whole given = verdict-range m (accept-ranges cells m whole given)
+
+-- and both are reached
+pub most-dowels : checkRow mostDowels ≡ gives (record { passes = false; check = 4; utilisation = 0; count = 6988121 })
+unfolding acceptKind lowest judgeBy greatest
+most-dowels = refl
+
+pub most-used : checkRow mostUsed ≡ gives (record { passes = false; check = 7; utilisation = 9999999; count = 0 })
+unfolding acceptKind lowest judgeBy greatest
+most-used = refl

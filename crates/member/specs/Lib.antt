@@ -8,3 +8,4 @@ pub mod Unrounded
 pub mod Demand3
 pub mod Ranges
 pub mod WorkedRows
+pub mod EdgeRows

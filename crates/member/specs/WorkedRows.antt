@@ -1,4 +1,4 @@
--- The worked rows A to H of document 01, cell by cell; rows of kind 1 without a joint and of kind 5, which A to H lack; and a row of kind 4 on the edge of demand 3.
+-- The worked rows A to H of document 01, cell by cell; rows of kind 1 without a joint and with half a one, and of kind 5, which A to H lack; and a row of kind 4 on the edge of demand 3.
 -- Assumes nothing.
 use Prim.Native.Nat.{ℕ}
 use mathlib.Core.List.{List, [], _∷_, _++_, map}
@@ -7,16 +7,16 @@ use Rattle.cells.specs.declared.row.Cell.{Cell}
 use Rattle.cells.specs.declared.row.Cell.the-variants.{Whole}
 
 -- filled cells, in order
-abbrev filled : List ℕ → List Cell
-filled values = map (λ (value : ℕ). Whole value) values
+abbrev pub wholes : List ℕ → List Cell
+wholes values = map (λ (value : ℕ). Whole value) values
 
 -- row A: kind 2, M and Q in cells 9 and 10
 abbrev pub rowA : List Cell
-rowA = filled (2 ∷ 1 ∷ 3 ∷ 10 ∷ 1000 ∷ 75 ∷ 300 ∷ []) ++ blanks 1 ++ filled (20000000 ∷ 20000 ∷ []) ++ blanks 12
+rowA = wholes (2 ∷ 1 ∷ 3 ∷ 10 ∷ 1000 ∷ 75 ∷ 300 ∷ []) ++ blanks 1 ++ wholes (20000000 ∷ 20000 ∷ []) ++ blanks 12
 
 -- rows B, C and D: kind 3, alike in all but Lb, cell 12
 abbrev strut : ℕ → List Cell
-strut lb = filled (3 ∷ 3 ∷ 2 ∷ 13 ∷ 1000 ∷ 100 ∷ 200 ∷ 50000 ∷ []) ++ blanks 2 ++ filled (3000 ∷ lb ∷ 1 ∷ []) ++ blanks 9
+strut lb = wholes (3 ∷ 3 ∷ 2 ∷ 13 ∷ 1000 ∷ 100 ∷ 200 ∷ 50000 ∷ []) ++ blanks 2 ++ wholes (3000 ∷ lb ∷ 1 ∷ []) ++ blanks 9
 
 -- row B: Lb 2000
 abbrev pub rowB : List Cell
@@ -32,11 +32,11 @@ rowD = strut 2021
 
 -- cells 1 to 13 of rows E, F and G: kind 1
 abbrev tie : List Cell
-tie = filled (1 ∷ 2 ∷ 4 ∷ 12 ∷ 1000 ∷ 100 ∷ 200 ∷ 100000 ∷ []) ++ blanks 2 ++ filled (3000 ∷ 3000 ∷ 5 ∷ [])
+tie = wholes (1 ∷ 2 ∷ 4 ∷ 12 ∷ 1000 ∷ 100 ∷ 200 ∷ 100000 ∷ []) ++ blanks 2 ++ wholes (3000 ∷ 3000 ∷ 5 ∷ [])
 
 -- their joint, alike in all but d, cell 15, and the length available, cell 17
 abbrev jointed : ℕ → ℕ → List Cell
-jointed d available = tie ++ filled (50 ∷ d ∷ 3 ∷ available ∷ 500 ∷ 800 ∷ 1800 ∷ 20 ∷ 2500 ∷ [])
+jointed d available = tie ++ wholes (50 ∷ d ∷ 3 ∷ available ∷ 500 ∷ 800 ∷ 1800 ∷ 20 ∷ 2500 ∷ [])
 
 -- row E: d 12, and a length of 840
 abbrev pub rowE : List Cell
@@ -60,8 +60,12 @@ rowWithoutJoint = tie ++ blanks 9
 
 -- a row of kind 5: the section, moment and shear of row A with the force and the lengths of row E
 abbrev pub rowOfKind5 : List Cell
-rowOfKind5 = filled (5 ∷ 1 ∷ 3 ∷ 10 ∷ 1000 ∷ 75 ∷ 300 ∷ 100000 ∷ 20000000 ∷ 20000 ∷ 3000 ∷ 3000 ∷ 5 ∷ []) ++ blanks 9
+rowOfKind5 = wholes (5 ∷ 1 ∷ 3 ∷ 10 ∷ 1000 ∷ 75 ∷ 300 ∷ 100000 ∷ 20000000 ∷ 20000 ∷ 3000 ∷ 3000 ∷ 5 ∷ []) ++ blanks 9
+
+-- row E without cell 14: half a joint
+abbrev pub rowHalfJoint : List Cell
+rowHalfJoint = tie ++ blanks 1 ++ wholes (12 ∷ 3 ∷ 840 ∷ 500 ∷ 800 ∷ 1800 ∷ 20 ∷ 2500 ∷ [])
 
 -- a row of kind 4 that fails on check 11 by rounding alone: unrounded it still holds with the forces times 1.002
 abbrev pub edgeRow : List Cell
-edgeRow = filled (4 ∷ 3 ∷ 2 ∷ 60 ∷ 501 ∷ 20 ∷ 61 ∷ 507 ∷ 135 ∷ 0 ∷ 3462 ∷ 100 ∷ 3 ∷ []) ++ blanks 9
+edgeRow = wholes (4 ∷ 3 ∷ 2 ∷ 60 ∷ 501 ∷ 20 ∷ 61 ∷ 507 ∷ 135 ∷ 0 ∷ 3462 ∷ 100 ∷ 3 ∷ []) ++ blanks 9
