@@ -1,12 +1,13 @@
--- The factor of demand 3 is no more than 1.005: for every check that it is used for, a row on which a fail is refuted, and would not be at 1.006; and so for
--- the count.
+-- The factor of demand 3 is no more than 1.005: for every check that it is used for, an accepted row on which a fail is refuted, and whose check no longer holds
+-- with the forces times 1.006; and a count that is one too many is refuted.
 -- Assumes nothing.
 use Prim.Native.Nat.{ℕ, _≤_}
 use native.Mathlib.Omega.{arith}
-use mathlib.Core.Path.{_≡_, refl}
+use mathlib.Core.Path.{_≡_, refl, sym, _∙_}
 use mathlib.Core.Logic.{inl, inr}
-use mathlib.Core.Bool.{Bool, true, false}
-use lib.Dec.{lit<, lit≤}
+use mathlib.Core.Bool.{Bool, true, false, true≢false}
+use borrow.Author.Tests.{le-leb}
+use lib.Dec.{leb, lit<, lit≤}
 use lib.ListN.{length}
 use Rattle.rounding.specs.Fraction.{whole, scaled}
 use Rattle.cells.specs.Lowest.{lowest}
@@ -17,11 +18,15 @@ use Rattle.member.specs.Checks.{Check, yesNo, strength, Has, layout, sle
 use Rattle.member.specs.Demand3.{demandFactor, LayoutOrSlenderness, CountFor, Demand3}
 use Rattle.member.specs.EdgeRows.{jointEdge, tensionEdge, bendingEdge, compressionEdge, compressionBendingEdge, tensionBendingEdge}
 use Rattle.member.specs.Member.{valuesOf, memberOf}
-use Rattle.member.specs.Unrounded.{forcesOf, Holds}
+use Rattle.member.specs.Unrounded.{forcesOf, times, Holds}
 use Rattle.member.specs.declared.kind.Kind.the-variants.{Tension, Bending, Compression, CompressionBending, TensionBending}
 use Rattle.member.specs.declared.member.Member.{Member}
 use Rattle.member.proofs.DemandLaws.{strength-high}
 use Rattle.member.proofs.DemandRefutes.{says}
+
+-- a comparison of numbers that fails
+past-it : (a b : ℕ) → leb a b ≡ false → a ≤ b → ⊥
+past-it a b e le = true≢false (sym (le-leb a b le) ∙ e)
 
 -- Check 4, and the count.
 abbrev joint : Member
@@ -46,6 +51,9 @@ fail-4 u n d =
       fits = lit≤ tt;
     })
 
+pub past-4 : Holds joint (times 1006 (forcesOf joint)) (yesNo jointLength) → ⊥
+past-4 h = omega (arith, h .least-count .holds .bending, h .least-columns .holds, h .fits)
+
 -- it keeps layout and slenderness
 kept : (c : Check) → LayoutOrSlenderness c → Has joint c → Holds joint (forcesOf joint) c
 kept (yesNo layout) low has = lit≤ tt
@@ -68,8 +76,14 @@ tension-edge-accepted = (refl, refl)
 pub fail-5 : (utilisation count : ℕ) → Demand3 tie (says false 5 utilisation count) demandFactor → ⊥
 fail-5 u n d = d .fail (strength netTension) (record { of-kind = inl refl; kept = refl }) (λ low. absurd (omega arith)) (record { fails = refl; names = refl }) (lit≤ tt)
 
+pub past-5 : Holds tie (times 1006 (forcesOf tie)) (strength netTension) → ⊥
+past-5 h = past-it _ _ refl h
+
 pub fail-6 : (utilisation count : ℕ) → Demand3 tie (says false 6 utilisation count) demandFactor → ⊥
 fail-6 u n d = d .fail (strength sidePieces) (record { of-kind = inr (inl refl); kept = refl }) (λ low. absurd (omega arith)) (record { fails = refl; names = refl }) (lit≤ tt)
+
+pub past-6 : Holds tie (times 1006 (forcesOf tie)) (strength sidePieces) → ⊥
+past-6 h = past-it _ _ refl h
 
 -- Checks 7 and 8.
 abbrev beam : Member
@@ -82,8 +96,14 @@ bending-edge-accepted = (refl, refl)
 pub fail-7 : (utilisation count : ℕ) → Demand3 beam (says false 7 utilisation count) demandFactor → ⊥
 fail-7 u n d = d .fail (strength bending) (record { of-kind = inl refl; kept = refl }) (λ low. absurd (omega arith)) (record { fails = refl; names = refl }) (lit≤ tt)
 
+pub past-7 : Holds beam (times 1006 (forcesOf beam)) (strength bending) → ⊥
+past-7 h = past-it _ _ refl h
+
 pub fail-8 : (utilisation count : ℕ) → Demand3 beam (says false 8 utilisation count) demandFactor → ⊥
 fail-8 u n d = d .fail (strength shear) (record { of-kind = inr (inl refl); kept = refl }) (λ low. absurd (omega arith)) (record { fails = refl; names = refl }) (lit≤ tt)
+
+pub past-8 : Holds beam (times 1006 (forcesOf beam)) (strength shear) → ⊥
+past-8 h = past-it _ _ refl h
 
 -- Checks 9 and 10.
 abbrev strut : Member
@@ -96,8 +116,14 @@ compression-edge-accepted = (refl, refl)
 pub fail-9 : (utilisation count : ℕ) → Demand3 strut (says false 9 utilisation count) demandFactor → ⊥
 fail-9 u n d = d .fail (strength bucklingH) (record { of-kind = inl refl; kept = refl }) (λ low. absurd (omega arith)) (record { fails = refl; names = refl }) (lit≤ tt)
 
+pub past-9 : Holds strut (times 1006 (forcesOf strut)) (strength bucklingH) → ⊥
+past-9 h = past-it _ _ refl h
+
 pub fail-10 : (utilisation count : ℕ) → Demand3 strut (says false 10 utilisation count) demandFactor → ⊥
 fail-10 u n d = d .fail (strength bucklingB) (record { of-kind = inr (inl refl); kept = refl }) (λ low. absurd (omega arith)) (record { fails = refl; names = refl }) (lit≤ tt)
+
+pub past-10 : Holds strut (times 1006 (forcesOf strut)) (strength bucklingB) → ⊥
+past-10 h = past-it _ _ refl h
 
 -- Check 11.
 abbrev beamColumn : Member
@@ -110,6 +136,9 @@ compression-bending-edge-accepted = (refl, refl)
 pub fail-11-compressed : (utilisation count : ℕ) → Demand3 beamColumn (says false 11 utilisation count) demandFactor → ⊥
 fail-11-compressed u n d = d .fail (strength compressionBending) (record { of-kind = inr (inr (inr (inl refl))); kept = refl }) (λ low. absurd (omega arith)) (record { fails = refl; names = refl }) (record { share = lit< tt; sum = lit≤ tt })
 
+pub past-11-compressed : Holds beamColumn (times 1006 (forcesOf beamColumn)) (strength compressionBending) → ⊥
+past-11-compressed h = past-it _ _ refl (h .sum)
+
 abbrev beamTie : Member
 beamTie = memberOf TensionBending false (valuesOf tensionBendingEdge)
 
@@ -119,3 +148,6 @@ tension-bending-edge-accepted = (refl, refl)
 
 pub fail-11-stretched : (utilisation count : ℕ) → Demand3 beamTie (says false 11 utilisation count) demandFactor → ⊥
 fail-11-stretched u n d = d .fail (strength tensionBending) (record { of-kind = inr (inl refl); kept = refl }) (λ low. absurd (omega arith)) (record { fails = refl; names = refl }) (lit≤ tt)
+
+pub past-11-stretched : Holds beamTie (times 1006 (forcesOf beamTie)) (strength tensionBending) → ⊥
+past-11-stretched h = past-it _ _ refl h

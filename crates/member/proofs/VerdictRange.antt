@@ -99,11 +99,11 @@ module _ (m : Member) where
 pub accepted-verdict-range : (cells : List Cell) (m : Member) → length cells ≡ cellCount → accept cells ≡ gives m → VerdictRange (verdict m)
 accepted-verdict-range cells m whole given = verdict-range m (accept-ranges cells m whole given)
 
--- and both are reached
-pub most-dowels : checkRow mostDowels ≡ gives (record { passes = false; check = 4; utilisation = 0; count = 6988121 })
+-- and the greatest count and utilisation are reached, by rows of 22 cells
+pub most-dowels : (checkRow mostDowels ≡ gives (record { passes = false; check = 4; utilisation = 0; count = 6988121 })) × (length mostDowels ≡ cellCount)
 unfolding acceptKind lowest judgeBy greatest
-most-dowels = refl
+most-dowels = (refl, refl)
 
-pub most-used : checkRow mostUsed ≡ gives (record { passes = false; check = 7; utilisation = 9999999; count = 0 })
+pub most-used : (checkRow mostUsed ≡ gives (record { passes = false; check = 7; utilisation = 9999999; count = 0 })) × (length mostUsed ≡ cellCount)
 unfolding acceptKind lowest judgeBy greatest
-most-used = refl
+most-used = (refl, refl)

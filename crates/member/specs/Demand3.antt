@@ -17,7 +17,8 @@ use Rattle.member.specs.declared.verdict.Answer.{Answer}
 use Rattle.member.specs.declared.verdict.Answer.the-variants.{Judged}
 use Rattle.member.specs.declared.verdict.Verdict.{Verdict}
 
--- demand 3, its factor of N, M and Q in thousandths, with which a check that failed must fail unrounded; checks 1 to 3, which round nothing, make no use of it
+-- demand 3: the factor of N, M and Q, in thousandths, with which a check that failed must fail unrounded; that of check 4 also bounds the count; checks 1 to 3,
+-- which round nothing, make no use of theirs
 abbrev pub demandFactor : Check → ℕ
 demandFactor c = 1005
 

@@ -1,24 +1,18 @@
--- Rows on an edge: whose checks still hold unrounded with the forces times 1.005 and no longer times 1.006; and whose verdicts have the greatest numbers.
+-- Rows on the edge of the factor, where the check named beside each still holds unrounded with the forces times 1.005 and no longer times 1.006; and rows whose
+-- verdicts have the greatest count and the greatest utilisation.
 -- Assumes nothing.
-use Prim.Native.Nat.{ℕ}
 use mathlib.Core.List.{List, [], _∷_, _++_}
 use Rattle.cells.specs.Row.{blanks}
 use Rattle.cells.specs.declared.row.Cell.{Cell}
-use Rattle.member.specs.WorkedRows.{wholes}
-
--- kind 1 with a joint, of an axial force and a length available
-abbrev tie : ℕ → ℕ → List Cell
-tie N available =
-    wholes (1 ∷ 2 ∷ 4 ∷ 12 ∷ 1000 ∷ 100 ∷ 200 ∷ N ∷ []) ++ blanks 2 ++ wholes (3000 ∷ 3000 ∷ 5 ∷ [])
-    ++ wholes (50 ∷ 12 ∷ 3 ∷ available ∷ 500 ∷ 800 ∷ 1800 ∷ 20 ∷ 2500 ∷ [])
+use Rattle.member.specs.WorkedRows.{wholes, jointed}
 
 -- check 4 and the count: 24 dowels in 8 columns for 1.005 × N, 25 in 9 for 1.006 × N
 abbrev pub jointEdge : List Cell
-jointEdge = tie 97467 756
+jointEdge = jointed 97467 12 756
 
 -- checks 5 and 6, whose capacities are equal here
 abbrev pub tensionEdge : List Cell
-tensionEdge = tie 290794 840
+tensionEdge = jointed 290794 12 840
 
 -- checks 7 and 8
 abbrev pub bendingEdge : List Cell

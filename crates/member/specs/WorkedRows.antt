@@ -30,25 +30,25 @@ rowC = strut 2020
 abbrev pub rowD : List Cell
 rowD = strut 2021
 
--- cells 1 to 13 of rows E, F and G: kind 1
-abbrev tie : List Cell
-tie = wholes (1 ∷ 2 ∷ 4 ∷ 12 ∷ 1000 ∷ 100 ∷ 200 ∷ 100000 ∷ []) ++ blanks 2 ++ wholes (3000 ∷ 3000 ∷ 5 ∷ [])
+-- cells 1 to 13 of rows E, F and G: kind 1, of an axial force
+abbrev tie : ℕ → List Cell
+tie N = wholes (1 ∷ 2 ∷ 4 ∷ 12 ∷ 1000 ∷ 100 ∷ 200 ∷ N ∷ []) ++ blanks 2 ++ wholes (3000 ∷ 3000 ∷ 5 ∷ [])
 
 -- their joint, alike in all but d, cell 15, and the length available, cell 17
-abbrev jointed : ℕ → ℕ → List Cell
-jointed d available = tie ++ wholes (50 ∷ d ∷ 3 ∷ available ∷ 500 ∷ 800 ∷ 1800 ∷ 20 ∷ 2500 ∷ [])
+abbrev pub jointed : ℕ → ℕ → ℕ → List Cell
+jointed N d available = tie N ++ wholes (50 ∷ d ∷ 3 ∷ available ∷ 500 ∷ 800 ∷ 1800 ∷ 20 ∷ 2500 ∷ [])
 
 -- row E: d 12, and a length of 840
 abbrev pub rowE : List Cell
-rowE = jointed 12 840
+rowE = jointed 100000 12 840
 
 -- row F: E with 839
 abbrev pub rowF : List Cell
-rowF = jointed 12 839
+rowF = jointed 100000 12 839
 
 -- row G: E with d 16
 abbrev pub rowG : List Cell
-rowG = jointed 16 840
+rowG = jointed 100000 16 840
 
 -- row H: every cell blank
 abbrev pub rowH : List Cell
@@ -56,7 +56,7 @@ rowH = blanks cellCount
 
 -- row E without its joint
 abbrev pub rowWithoutJoint : List Cell
-rowWithoutJoint = tie ++ blanks 9
+rowWithoutJoint = tie 100000 ++ blanks 9
 
 -- a row of kind 5: the section, moment and shear of row A with the force and the lengths of row E
 abbrev pub rowOfKind5 : List Cell
@@ -64,7 +64,7 @@ rowOfKind5 = wholes (5 ∷ 1 ∷ 3 ∷ 10 ∷ 1000 ∷ 75 ∷ 300 ∷ 100000 ∷
 
 -- row E without cell 14: half a joint
 abbrev pub rowHalfJoint : List Cell
-rowHalfJoint = tie ++ blanks 1 ++ wholes (12 ∷ 3 ∷ 840 ∷ 500 ∷ 800 ∷ 1800 ∷ 20 ∷ 2500 ∷ [])
+rowHalfJoint = tie 100000 ++ blanks 1 ++ wholes (12 ∷ 3 ∷ 840 ∷ 500 ∷ 800 ∷ 1800 ∷ 20 ∷ 2500 ∷ [])
 
 -- a row of kind 4 that fails on check 11 by rounding alone: unrounded it still holds with the forces times 1.002
 abbrev pub edgeRow : List Cell
