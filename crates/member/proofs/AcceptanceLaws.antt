@@ -3,10 +3,10 @@
 use Prim.Native.Nat.{ℕ, _+_, _-_, _≤_, _<_}
 use native.Mathlib.Omega.{arith}
 use mathlib.Core.Path.{_≡_, refl, sym, ap, _∙_}
-use mathlib.Core.Bool.{Bool, true, false, not, cond, _&&_, Bool·beq, and-false}
+use mathlib.Core.Bool.{Bool, true, false, not, cond, _&&_, Bool·beq, and-false, true≢false}
 use mathlib.Core.List.{List}
-use borrow.Author.Tests.{leb-true, eqb-true, ne-eqb}
-use lib.Dec.{leb, eqb, lit<}
+use borrow.Author.Tests.{leb-true, le-leb, eqb-true, ne-eqb}
+use lib.Dec.{leb, eqb, lit<, lit≤}
 use lib.ListN.{length, getD, List·getD-map}
 use Rattle.rounding.specs.Range.{In}
 use Rattle.cells.specs.Refusal.{Result, gives, refuses}
@@ -19,10 +19,10 @@ use Rattle.sp64.specs.Tables.{slendernessLimit}
 use Rattle.sp64.proofs.StrengthLaws.{material-known}
 use Rattle.sp64.proofs.TableLaws.{limit-in}
 use Rattle.member.specs.Acceptance.{begins, misfilled, unknownCode, outOfRange, lowestCell, isBegun, unlessRefused, acceptKind, acceptCode, acceptFirst, accept}
-use Rattle.member.specs.Cells.{filled, valueOf, within, wanted, optional, knownCode, compressed, ranges, inRange}
+use Rattle.member.specs.Cells.{filled, valueOf, within, required, wanted, optional, knownCode, compressed, ranges, inRange}
 use Rattle.member.specs.Kind.{kindOf}
 use Rattle.member.specs.Member.{valuesOf, memberOf, jointOf}
-use Rattle.member.specs.Ranges.{Sized, Braced, RangesOf}
+use Rattle.member.specs.Ranges.{RangesOf}
 use Rattle.member.specs.declared.kind.Kind.{Kind}
 use Rattle.member.specs.declared.kind.Kind.the-variants.{Tension, Bending, Compression, CompressionBending, TensionBending}
 use Rattle.member.specs.declared.kind.KindCode.{KindCode}
@@ -88,38 +88,23 @@ module _ (kind : Kind) (begun : Bool) (cells : List Cell) (whole : length cells 
   abbrev here : Member
   here = memberOf kind begun (valuesOf cells)
 
-  sized : (wanted kind begun 2 ≡ true) × (wanted kind begun 3 ≡ true) × (wanted kind begun 5 ≡ true) × (wanted kind begun 6 ≡ true) × (wanted kind begun 7 ≡ true) → Sized here
-  sized w =
-      record {
-        material =
-            material-known (getD (valuesOf cells) 1 0) (getD (valuesOf cells) 2 0) (getD (valuesOf cells) 3 0)
-            (leb-true _ _ (code-known kind begun cells whole ok 1 (lit< tt) (w .0)))
-            (leb-true _ _ (code-known kind begun cells whole ok 2 (lit< tt) (w .1)))
-            (cell-in kind begun cells whole ok 4 (lit< tt) (w .2));
-        section = record { width = cell-in kind begun cells whole ok 5 (lit< tt) (w .3); height = cell-in kind begun cells whole ok 6 (lit< tt) (w .4) };
-      }
+  -- a cell that the kind always fills is wanted
+  always : (n : ℕ) → required kind n ≡ true → wanted kind begun n ≡ true
+  always n e = rw e refl
 
-  row-known : wanted kind begun 13 ≡ true → (leb 1 (slendernessLimit (here .table16)) ≡ true) × (Bool·beq (leb (here .table16) 3) (compressed kind) ≡ true)
-  row-known w = both-true _ _ (code-known kind begun cells whole ok 12 (lit< tt) w)
-
-  braced : (wanted kind begun 11 ≡ true) × (wanted kind begun 12 ≡ true) × (wanted kind begun 13 ≡ true) → Braced here
-  braced w =
-      record {
-        lh = cell-in kind begun cells whole ok 10 (lit< tt) (w .0);
-        lb = cell-in kind begun cells whole ok 11 (lit< tt) (w .1);
-        limit = limit-in (here .table16) (leb-true _ _ (row-known (w .2) .0));
-      }
+  row-known : required kind 13 ≡ true → (leb 1 (slendernessLimit (here .table16)) ≡ true) × (Bool·beq (leb (here .table16) 3) (compressed kind) ≡ true)
+  row-known e = both-true _ _ (code-known kind begun cells whole ok 12 (lit< tt) (always 13 e))
 
   -- rows 1 to 3 of Table 16 for kinds 3 and 4
-  row-low : wanted kind begun 13 ≡ true → compressed kind ≡ true → here .table16 ≤ 3
-  row-low w e =
-      let same = ap (λ (t : Bool). Bool·beq (leb (here .table16) 3) t) (sym e) ∙ row-known w .1 in
+  row-low : required kind 13 ≡ true → compressed kind ≡ true → here .table16 ≤ 3
+  row-low r e =
+      let same = ap (λ (t : Bool). Bool·beq (leb (here .table16) 3) t) (sym e) ∙ row-known r .1 in
       leb-true _ _ (same-as-true _ same)
 
 -- the joint of a row that has begun one
-joint-in : (cells : List Cell) → length cells ≡ cellCount → Unbroken Tension true cells → JointRanges (jointOf (valuesOf cells))
-joint-in cells whole ok =
-    let at = cell-in Tension true cells whole ok in
+joint-in : (kind : Kind) (cells : List Cell) → length cells ≡ cellCount → kind ≡ Tension → Unbroken kind true cells → JointRanges (jointOf (valuesOf cells))
+joint-in kind cells whole e ok =
+    let at = cell-in Tension true cells whole (rw e at ok) in
     record {
       side = at 13 (lit< tt) refl;
       diameter = at 14 (lit< tt) refl;
@@ -133,40 +118,65 @@ joint-in cells whole ok =
     }
 
 -- a kind without optional cells begins none
-none-begun : (kind : Kind) (cells : List Cell) → ((n : ℕ) → optional kind n ≡ false) → isBegun kind cells ≡ false
-none-begun kind cells none =
+none-begun : (kind : Kind) (cells : List Cell) → ((n : ℕ) → optional kind n ≡ false) → isBegun kind cells ≡ true → ⊥
+none-begun kind cells none e =
     let pass : (n : ℕ) (cell : Cell) → begins kind n cell ≡ false = λ n cell. rw (none n) (and-false (filled cell)) in
-    rw (lowest-of-passing (begins kind) pass 1 cells)
+    true≢false (sym e ∙ rw (lowest-of-passing (begins kind) pass 1 cells) refl)
+
+-- so a joint is begun in kind 1 alone
+begun-tension : (kind : Kind) (cells : List Cell) → isBegun kind cells ≡ true → kind ≡ Tension
+begun-tension Tension cells e = refl
+begun-tension Bending cells e = absurd (none-begun Bending cells (λ n. refl) e)
+begun-tension Compression cells e = absurd (none-begun Compression cells (λ n. refl) e)
+begun-tension CompressionBending cells e = absurd (none-begun CompressionBending cells (λ n. refl) e)
+begun-tension TensionBending cells e = absurd (none-begun TensionBending cells (λ n. refl) e)
+
+-- every kind fills cells 1 to 7
+first-cells : (kind : Kind) (n : ℕ) → 1 ≤ n → n ≤ 7 → required kind n ≡ true
+first-cells Tension n low high = rw (le-leb 1 n low, le-leb n 8 (omega (arith, high))) refl
+first-cells Bending n low high = rw (le-leb 1 n low, le-leb n 7 high) refl
+first-cells Compression n low high = rw (le-leb 1 n low, le-leb n 8 (omega (arith, high))) refl
+first-cells CompressionBending n low high = rw (le-leb 1 n low, le-leb n 13 (omega (arith, high))) refl
+first-cells TensionBending n low high = rw (le-leb 1 n low, le-leb n 13 (omega (arith, high))) refl
+
+-- a kind that fills cell 11 fills cells 12 and 13
+braced-cells : (kind : Kind) → required kind 11 ≡ true → (required kind 12 ≡ true) × (required kind 13 ≡ true)
+braced-cells Tension e = (refl, refl)
+braced-cells Bending e = (e, e)
+braced-cells Compression e = (refl, refl)
+braced-cells CompressionBending e = (refl, refl)
+braced-cells TensionBending e = (refl, refl)
 
 -- the ranges that the member of an accepted row keeps
 pub accepted-ranges : (kind : Kind) (cells : List Cell) {begun : Bool} → length cells ≡ cellCount → begun ≡ isBegun kind cells → Unbroken kind begun cells → RangesOf kind (memberOf kind begun (valuesOf cells))
-accepted-ranges Tension cells {begun} whole is ok = (
-  sized Tension begun cells whole ok (refl, refl, refl, refl, refl),
-  braced Tension begun cells whole ok (refl, refl, refl),
-  cell-in Tension begun cells whole ok 7 (lit< tt) refl,
-  λ e. joint-in cells whole (rw e at ok),
-)
-accepted-ranges Bending cells whole is ok =
-    (sized Bending _ cells whole ok (refl, refl, refl, refl, refl), is ∙ none-begun Bending cells (λ n. refl))
-accepted-ranges Compression cells whole is ok = (
-  sized Compression _ cells whole ok (refl, refl, refl, refl, refl),
-  braced Compression _ cells whole ok (refl, refl, refl),
-  row-low Compression _ cells whole ok refl refl,
-  is ∙ none-begun Compression cells (λ n. refl),
-)
-accepted-ranges CompressionBending cells whole is ok = (
-  sized CompressionBending _ cells whole ok (refl, refl, refl, refl, refl),
-  braced CompressionBending _ cells whole ok (refl, refl, refl),
-  row-low CompressionBending _ cells whole ok refl refl,
-  cell-in CompressionBending _ cells whole ok 7 (lit< tt) refl,
-  cell-in CompressionBending _ cells whole ok 8 (lit< tt) refl,
-  is ∙ none-begun CompressionBending cells (λ n. refl),
-)
-accepted-ranges TensionBending cells whole is ok = (
-  sized TensionBending _ cells whole ok (refl, refl, refl, refl, refl),
-  braced TensionBending _ cells whole ok (refl, refl, refl),
-  is ∙ none-begun TensionBending cells (λ n. refl),
-)
+accepted-ranges kind cells {begun} whole is ok =
+    let filled : (n : ℕ) → required kind n ≡ true → wanted kind begun n ≡ true = always kind begun cells whole ok in
+    let first : (n : ℕ) → 1 ≤ n → n ≤ 7 → wanted kind begun n ≡ true = λ n low high. filled n (first-cells kind n low high) in
+    let at = cell-in kind begun cells whole ok in
+    let code = code-known kind begun cells whole ok in
+    record {
+      sized =
+          record {
+            material =
+                material-known (getD (valuesOf cells) 1 0) (getD (valuesOf cells) 2 0) (getD (valuesOf cells) 3 0)
+                (leb-true _ _ (code 1 (lit< tt) (first 2 (lit≤ tt) (lit≤ tt))))
+                (leb-true _ _ (code 2 (lit< tt) (first 3 (lit≤ tt) (lit≤ tt))))
+                (at 4 (lit< tt) (first 5 (lit≤ tt) (lit≤ tt)));
+            section = record { width = at 5 (lit< tt) (first 6 (lit≤ tt) (lit≤ tt)); height = at 6 (lit< tt) (first 7 (lit≤ tt) (lit≤ tt)) };
+          };
+      force = λ e. at 7 (lit< tt) (filled 8 e);
+      moment = λ e. at 8 (lit< tt) (filled 9 e);
+      braced = λ e.
+          let row = braced-cells kind e .1 in
+          record {
+            lh = at 10 (lit< tt) (filled 11 e);
+            lb = at 11 (lit< tt) (filled 12 (braced-cells kind e .0));
+            limit = limit-in (here kind begun cells whole ok .table16) (leb-true _ _ (row-known kind begun cells whole ok row .0));
+          };
+      table16 = row-low kind begun cells whole ok;
+      tension = λ e. begun-tension kind cells (sym is ∙ e);
+      joint = λ e. joint-in kind cells whole (begun-tension kind cells (sym is ∙ e)) (rw e at ok);
+    }
 
 -- what acceptance comes to, by the first rule that a cell breaks
 module _ (kind : Kind) (cells : List Cell) {begun : Bool} (is : begun ≡ isBegun kind cells) where

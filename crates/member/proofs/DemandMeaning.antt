@@ -19,7 +19,7 @@ use Rattle.member.specs.declared.member.Member.{Member}
 use Rattle.member.specs.declared.verdict.Verdict.{Verdict}
 use Rattle.member.proofs.VerdictLaws.{clash, yesNoNumber, yes-no-rising, FirstFailing, judge-meaning}
 use Rattle.member.proofs.DemandLaws.{strength-high, exact}
-use Rattle.member.proofs.RowChecks.{joint-row}
+use Rattle.member.proofs.Reliance.{joined}
 
 -- the forces at which a failed check must fail: those of the row for layout and slenderness, k c thousandths of them for another check c
 abbrev pub failForces : (Check → ℕ) → Forces → Check → Forces
@@ -109,9 +109,9 @@ module _ (m : Member) (f : Forces) where
     pub count-between : RangesOf (m .kind) m → 0 < f .N .den → m .jointed ≡ true → ((c : Check) → LayoutOrSlenderness c → Has m c → Holds m f c)
         → (n : ℕ) × (n′ : ℕ) × CountFor m (f .N) n × CountFor m (scaled (k (yesNo jointLength)) (f .N)) n′ × (n ≤ v .count) × (v .count ≤ n′)
     count-between ranges real e laid =
-        let j = joint-row m (m .kind) ranges e in
-        let low = count-exists (f .N) real (j .0 .section .width) (j .1) (j .0 .material) in
-        let high = count-exists (scaled (k (yesNo jointLength)) (f .N)) (scaled-real (k (yesNo jointLength)) (f .N) real) (j .0 .section .width) (j .1) (j .0 .material) in
+        let j = joined m ranges e in
+        let low = count-exists (f .N) real (j .sized .section .width) (j .joint) (j .sized .material) in
+        let high = count-exists (scaled (k (yesNo jointLength)) (f .N)) (scaled-real (k (yesNo jointLength)) (f .N) real) (j .sized .section .width) (j .joint) (j .sized .material) in
         (_, _, low, high, demand .count-above e laid _ low, demand .count-below e laid _ high)
 
   -- two verdicts that keep demand 3 of one row agree on whether and where layout or slenderness fails

@@ -19,12 +19,10 @@ use Rattle.member.specs.Demand3.{FailsOn, Demand3}
 use Rattle.member.specs.Ranges.{RangesOf}
 use Rattle.member.specs.Unrounded.{Forces, forcesOf, times, Holds}
 use Rattle.member.specs.declared.kind.Kind.{Kind}
-use Rattle.member.specs.declared.kind.Kind.the-variants.{Tension, Bending, Compression, CompressionBending, TensionBending}
 use Rattle.member.specs.declared.member.Member.{Member}
 use Rattle.member.specs.declared.verdict.Verdict.{Verdict}
 use Rattle.member.proofs.AcceptanceLaws.{accept-ranges}
-use Rattle.member.proofs.VerdictLaws.{clash}
-use Rattle.member.proofs.RowChecks.{joint-row}
+use Rattle.member.proofs.Reliance.{joined}
 use Rattle.member.proofs.DemandMeaning.{failed}
 
 -- the joint is too long for an axial force, unrounded: that of f
@@ -32,19 +30,15 @@ abbrev pub JointTooLong : Member → Forces → Type 0
 JointTooLong m f = TooLong (f .N) (m .width) (m .joint) (m .material)
 
 -- check 4 is one of a kind that has a joint
-has-joint-length : (m : Member) (kind : Kind) → RangesOf kind m → m .jointed ≡ true → OfKind kind (yesNo jointLength)
-has-joint-length m Tension ranges e = inr (inr (inr (inl refl)))
-has-joint-length m Bending ranges e = absurd (clash e (ranges .1))
-has-joint-length m Compression ranges e = absurd (clash e (ranges .3))
-has-joint-length m CompressionBending ranges e = absurd (clash e (ranges .5))
-has-joint-length m TensionBending ranges e = absurd (clash e (ranges .2))
+has-joint-length : (m : Member) {kind : Kind} → RangesOf kind m → m .jointed ≡ true → OfKind kind (yesNo jointLength)
+has-joint-length m ranges e = rw (ranges .tension e) (inr (inr (inr (inl refl))))
 
 module _ (cells : List Cell) (m : Member) (whole : length cells ≡ cellCount) (given : accept cells ≡ gives m) (jointed : m .jointed ≡ true) where
   -- at any forces whose N is a value
   fails-iff-at : (f : Forces) → 0 < f .N .den → (Holds m f (yesNo jointLength) → ⊥) ↔ JointTooLong m f
   fails-iff-at f real =
-      let j = joint-row m (m .kind) (accept-ranges cells m whole given) jointed in
-      joint-length-fails-iff (f .N) real (j .0 .section .width) (j .1) (j .0 .material)
+      let j = joined m (accept-ranges cells m whole given) jointed in
+      joint-length-fails-iff (f .N) real (j .sized .section .width) (j .joint) (j .sized .material)
 
   -- check 4 fails exactly where the joint is too long: at the forces of the cells
   pub length-fails-iff : (Holds m (forcesOf m) (yesNo jointLength) → ⊥) ↔ JointTooLong m (forcesOf m)
@@ -58,5 +52,5 @@ module _ (cells : List Cell) (m : Member) (whole : length cells ≡ cellCount) (
   pub failed-too-long : (v : Verdict) (k : Check → ℕ) → Demand3 m v k → FailsOn v (yesNo jointLength) → JointTooLong m (times (k (yesNo jointLength)) (forcesOf m))
   failed-too-long v k demand on =
       let has : Has m (yesNo jointLength) =
-      record { of-kind = has-joint-length m (m .kind) (accept-ranges cells m whole given) jointed; kept = rw jointed refl } in
+      record { of-kind = has-joint-length m (accept-ranges cells m whole given) jointed; kept = rw jointed refl } in
       length-fails-iff-scaled (k (yesNo jointLength)) .0 (failed m (forcesOf m) v k demand (yesNo jointLength) has on)

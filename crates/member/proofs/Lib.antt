@@ -2,6 +2,7 @@ pub mod AcceptedRows
 pub mod AcceptanceLaws
 pub mod VerdictLaws
 pub mod DemandLaws
+pub mod Reliance
 pub mod RowChecks
 pub mod KeepsDemand3
 pub mod DemandRefutes

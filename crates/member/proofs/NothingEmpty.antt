@@ -3,39 +3,31 @@
 -- Assumes nothing.
 use Prim.Native.Nat.{ℕ, _*_, _<_}
 use mathlib.Core.Path.{_≡_, refl}
-use mathlib.Core.Logic.{inl, inr}
 use mathlib.Core.Bool.{Bool, true, false, cond}
 use mathlib.Core.List.{List}
-use borrow.Author.Tests.{not-false}
-use lib.Dec.{lit≤, lit<}
+use lib.Dec.{lit<}
 use lib.ListN.{length}
 use Rattle.rounding.specs.Fraction.{Fraction, whole, _⊘_, _⊕_, _⊖_, _≼_, _≺_}
-use Rattle.rounding.proofs.Ranges.{in-wide}
 use Rattle.cells.specs.Refusal.{gives}
 use Rattle.cells.specs.Row.{cellCount}
 use Rattle.cells.specs.declared.row.Cell.{Cell}
 use Rattle.sp64.specs.Buckling.{stocky, exactSlenderPhi, exactBucklingPhi, exactBucklingCapacity, exactEulerCapacity}
 use Rattle.sp64.specs.Capacity.{exactNetTensionCapacity, exactSidePieceCapacity, exactShearCapacity}
 use Rattle.sp64.specs.Combined.{exactAxialShare, exactSecondOrderMoment}
-use Rattle.sp64.specs.Joint.{JointRanges, Layout, coreCrushing, sideCrushing, dowelBending, exactTerm}
-use Rattle.sp64.specs.Ranges.{InLength, InLimit, InSide}
-use Rattle.sp64.specs.Slenderness.{Slenderness}
+use Rattle.sp64.specs.Joint.{coreCrushing, sideCrushing, dowelBending, exactTerm}
 use Rattle.sp64.specs.Strength.{exactStrength}
 use Rattle.sp64.specs.declared.tables.Stress.{Stress}
 use Rattle.sp64.specs.declared.tables.Stress.the-variants.{Compression as compressionStress, Tension as tensionStress, Shear as shearStress}
 use Rattle.sp64.proofs.Denominators.{Proper, scaled-real, net-height-kept, stocky-phi-kept, phi-proper, slender-phi-proper, core-crushing-proper, side-crushing-proper, dowel-bending-proper, strength-proper, tension-proper, net-tension-proper, side-piece-proper, compression-proper, bending-proper, shear-proper, buckling-proper, euler-proper, share-real, remainder-proper, moment-real, combined-real}
 use Rattle.member.specs.Acceptance.{accept}
-use Rattle.cells.specs.Greatest.{Among}
-use Rattle.member.specs.Checks.{Check, YesNo, Strength, yesNo, strength, yesNoOf, strengthOf, omitted, Has, layout, slendernessH, slendernessB, netTension, sidePieces, bending, shear, bucklingH, bucklingB, compressionBending, tensionBending}
+use Rattle.member.specs.Checks.{Check, Strength, yesNo, strength, Has, layout, netTension, sidePieces, bending, shear, bucklingH, bucklingB, compressionBending, tensionBending}
 use Rattle.member.specs.Demand3.{LayoutOrSlenderness}
 use Rattle.member.specs.Member.{limitOf, exactNRof, exactMRof}
-use Rattle.member.specs.Ranges.{Sized, Braced, RangesOf}
+use Rattle.member.specs.Ranges.{Sized}
 use Rattle.member.specs.Unrounded.{Forces, forcesOf, times, Holds}
-use Rattle.member.specs.declared.kind.Kind.{Kind}
-use Rattle.member.specs.declared.kind.Kind.the-variants.{Tension, Bending, Compression, CompressionBending, TensionBending}
 use Rattle.member.specs.declared.member.Member.{Member}
 use Rattle.member.proofs.AcceptanceLaws.{accept-ranges}
-use Rattle.member.proofs.RowChecks.{not-row-4, joint-row}
+use Rattle.member.proofs.Reliance.{LaidOut, Steady, ReliesOn, ExactHold, joined, relied-on}
 
 -- N, M and Q are values
 pub record Real (f : Forces) : Type 0 where
@@ -118,154 +110,93 @@ combined-proper : {N NR Md MR : Fraction} → ProperRatio N NR → ProperRatio M
 combined-proper {N} {NR} {Md} {MR} n d =
     record { axial = n; moment = d; sum = combined-real N NR Md MR (n .force-real) (n .capacity-proper) (d .force-real) (d .capacity-proper) }
 
-module _ (m : Member) (f : Forces) (real : Real f) where
-  -- check 5, where a joint keeps its layout
-  net-tension : Sized m → (m .jointed ≡ true → JointRanges (m .joint) × Layout (m .height) (m .joint)) → ProperAt m f netTension
-  net-tension sized laid = (
+module _ (m : Member) (f : Forces) (real : Real f) (here : Sized m) where
+  -- check 5 with and without a joint
+  net-tension : (m .jointed ≡ true → LaidOut m) → ProperAt m f netTension
+  net-tension laid = (
     record { force-real = real .N; capacity-proper = by (m .jointed) refl },
-    λ e. net-height-kept (sized .section .height) (laid e .0) (laid e .1),
+    λ e. net-height-kept (here .section .height) (laid e .joint) (laid e .layout),
   )
     where
       by : (t : Bool) → m .jointed ≡ t
           → Proper (cond t (exactNetTensionCapacity (m .width) (m .height) (m .joint) (exactStrength tensionStress (m .material))) (exactNRof tensionStress m))
-      by true e = net-tension-proper (sized .material) (sized .section) (laid e .0) (laid e .1)
-      by false e = tension-proper (sized .material) (sized .section)
+      by true e = net-tension-proper (here .material) (here .section) (laid e .joint) (laid e .layout)
+      by false e = tension-proper (here .material) (here .section)
 
-  module _ (sized : Sized m) where
-    -- checks 7 and 8
-    against-moment : ProperAt m f bending
-    against-moment = record { force-real = real .M; capacity-proper = bending-proper (sized .material) (sized .section) }
+  -- N against NR in compression, and M against MR
+  against-force : ProperRatio (f .N) (exactNRof compressionStress m)
+  against-force = record { force-real = real .N; capacity-proper = compression-proper (here .material) (here .section) }
 
-    against-shear : ProperAt m f shear
-    against-shear = record { force-real = real .Q; capacity-proper = shear-proper (sized .material) (sized .section) }
+  against-moment : ProperAt m f bending
+  against-moment = record { force-real = real .M; capacity-proper = bending-proper (here .material) (here .section) }
 
-    -- checks 9 and 10, where slenderness holds
-    buckling : {L s : ℕ} → InLength L → InSide s → InLimit (limitOf m) → Slenderness (limitOf m) L s
-        → ProperBuckling (f .N) (exactNRof compressionStress m) L s
-    buckling {L} {s} length side limit slender =
+  -- checks 9 and 10
+  buckling : {L s : ℕ} → Steady (limitOf m) L s → ProperBuckling (f .N) (exactNRof compressionStress m) L s
+  buckling {L} {s} steady =
+      record {
+        ratio = record { force-real = real .N; capacity-proper = buckling-proper (here .material) (here .section) (steady .length) (steady .side) (steady .most) (steady .slender) };
+        axial = against-force .capacity-proper;
+        phi = phi-proper (steady .length) (steady .side) (steady .most) (steady .slender);
+        kept = stocky-phi-kept L s;
+      }
+
+  -- check 11 of kind 4
+  combined-compression : Steady (limitOf m) (m .lh) (m .height) → ProperAt m f compressionBending
+  combined-compression steady =
+      let N = f .N in
+      let M = f .M in
+      let C = exactEulerCapacity (exactNRof compressionStress m) (m .lh) (m .height) in
+      let euler : Proper C = euler-proper (here .material) (here .section) (steady .length) (steady .side) (steady .most) (steady .slender) in
+      let Md-real = moment-real N M C (real .N) (real .M) euler in (
+        slender-phi-proper (steady .length) (steady .side) (steady .most) (steady .slender),
         record {
-          ratio = record { force-real = real .N; capacity-proper = buckling-proper (sized .material) (sized .section) length side limit slender };
-          axial = compression-proper (sized .material) (sized .section);
-          phi = phi-proper length side limit slender;
-          kept = stocky-phi-kept L s;
-        }
-
-    -- check 11 of kind 4, where slenderness holds across the height
-    combined-compression : Braced m → Slenderness (limitOf m) (m .lh) (m .height) → ProperAt m f compressionBending
-    combined-compression braced slender =
-        let N = f .N in
-        let M = f .M in
-        let NR = exactNRof compressionStress m in
-        let C = exactEulerCapacity NR (m .lh) (m .height) in
-        let side : InSide (m .height) = in-wide 20 2500 (lit≤ tt) (lit≤ tt) (sized .section .height) in
-        let axial : ProperRatio N NR = record { force-real = real .N; capacity-proper = compression-proper (sized .material) (sized .section) } in
-        let euler : Proper C = euler-proper (sized .material) (sized .section) (braced .lh) side (braced .limit) slender in
-        let Md-real = moment-real N M C (real .N) (real .M) euler in (
-          slender-phi-proper (braced .lh) side (braced .limit) slender,
-          record {
-            axial = axial;
-            moment = against-moment;
-            euler = euler;
-            share = share-real N M C (real .N) (real .M) euler;
-            remainder = remainder-proper N M C (real .N) (real .M) euler;
-            combined = λ below. combined-proper axial (record { force-real = Md-real below; capacity-proper = against-moment .capacity-proper });
-          },
-        )
-
-  -- layout and slenderness hold in a row of the kind
-  abbrev Laid : Kind → Type 0
-  Laid kind = (c : YesNo) → LayoutOrSlenderness (yesNo c) → Among c (yesNoOf kind) → omitted m (yesNo c) ≡ false → Holds m (forcesOf m) (yesNo c)
-
-  -- kind 1: checks 5 and 6
-  tension-row : RangesOf Tension m → Laid Tension → (c : Strength) → Among c (strengthOf Tension) → omitted m (strength c) ≡ false → ProperAt m f c
-  tension-row ranges hold = by
-    where
-      laid : m .jointed ≡ true → JointRanges (m .joint) × Layout (m .height) (m .joint)
-      laid e = (ranges .3 e, hold layout (lit≤ tt) (inl refl) (rw e refl))
-
-      by : (c : Strength) → Among c (strengthOf Tension) → omitted m (strength c) ≡ false → ProperAt m f c
-      by c (inl e) kept = rw e (net-tension (ranges .0) laid)
-      by c (inr (inl e)) kept =
-          let j = laid (not-false _ (rw e at kept)) in
-          rw e (
-            record { force-real = real .N; capacity-proper = side-piece-proper (ranges .0 .material) (ranges .0 .section) (j .0) (j .1) },
-            net-height-kept (ranges .0 .section .height) (j .0) (j .1),
-          )
-      by c (inr (inr a)) kept = absurd a
-
-  -- checks 9 and 10 of kinds 3 and 4
-  module _ (sized : Sized m) (braced : Braced m) where
-    buckling-height : Slenderness (limitOf m) (m .lh) (m .height) → ProperAt m f bucklingH
-    buckling-height = buckling sized (braced .lh) (in-wide 20 2500 (lit≤ tt) (lit≤ tt) (sized .section .height)) (braced .limit)
-
-    buckling-width : Slenderness (limitOf m) (m .lb) (m .width) → ProperAt m f bucklingB
-    buckling-width = buckling sized (braced .lb) (in-wide 20 2500 (lit≤ tt) (lit≤ tt) (sized .section .width)) (braced .limit)
-
-  -- a row of any kind
-  strength-row : (kind : Kind) → RangesOf kind m → Laid kind → (c : Strength) → Among c (strengthOf kind) → omitted m (strength c) ≡ false → ProperAt m f c
-  strength-row Tension ranges hold c a kept = tension-row ranges hold c a kept
-  -- kind 2: checks 7 and 8
-  strength-row Bending ranges hold c (inl e) kept = rw e (against-moment (ranges .0))
-  strength-row Bending ranges hold c (inr (inl e)) kept = rw e (against-shear (ranges .0))
-  strength-row Bending ranges hold c (inr (inr a)) kept = absurd a
-  -- kind 3: checks 9 and 10
-  strength-row Compression ranges hold c (inl e) kept =
-      rw e (buckling-height (ranges .0) (ranges .1) (hold slendernessH (lit≤ tt) (inl refl) refl))
-  strength-row Compression ranges hold c (inr (inl e)) kept =
-      rw e (buckling-width (ranges .0) (ranges .1) (hold slendernessB (lit≤ tt) (inr (inl refl)) (not-row-4 m (ranges .2))))
-  strength-row Compression ranges hold c (inr (inr a)) kept = absurd a
-  -- kind 4: checks 8 to 11
-  strength-row CompressionBending ranges hold c (inl e) kept = rw e (against-shear (ranges .0))
-  strength-row CompressionBending ranges hold c (inr (inl e)) kept =
-      rw e (buckling-height (ranges .0) (ranges .1) (hold slendernessH (lit≤ tt) (inl refl) refl))
-  strength-row CompressionBending ranges hold c (inr (inr (inl e))) kept =
-      rw e (buckling-width (ranges .0) (ranges .1) (hold slendernessB (lit≤ tt) (inr (inl refl)) (not-row-4 m (ranges .2))))
-  strength-row CompressionBending ranges hold c (inr (inr (inr (inl e)))) kept =
-      rw e (combined-compression (ranges .0) (ranges .1) (hold slendernessH (lit≤ tt) (inl refl) refl))
-  strength-row CompressionBending ranges hold c (inr (inr (inr (inr a)))) kept = absurd a
-  -- kind 5: checks 8 and 11
-  strength-row TensionBending ranges hold c (inl e) kept = rw e (against-shear (ranges .0))
-  strength-row TensionBending ranges hold c (inr (inl e)) kept =
-      rw e (
-      combined-proper
-      (record { force-real = real .N; capacity-proper = tension-proper (ranges .0 .material) (ranges .0 .section) })
-      (against-moment (ranges .0))
+          axial = against-force;
+          moment = against-moment;
+          euler = euler;
+          share = share-real N M C (real .N) (real .M) euler;
+          remainder = remainder-proper N M C (real .N) (real .M) euler;
+          combined = λ below. combined-proper against-force (record { force-real = Md-real below; capacity-proper = against-moment .capacity-proper });
+        },
       )
-  strength-row TensionBending ranges hold c (inr (inr a)) kept = absurd a
 
--- the grade and the section of a row
-sized-row : (m : Member) (kind : Kind) → RangesOf kind m → Sized m
-sized-row m Tension ranges = ranges .0
-sized-row m Bending ranges = ranges .0
-sized-row m Compression ranges = ranges .0
-sized-row m CompressionBending ranges = ranges .0
-sized-row m TensionBending ranges = ranges .0
+  -- a strength check that has what it relies on
+  proper-strength : (c : Strength) → ReliesOn m c → ProperAt m f c
+  proper-strength netTension laid = net-tension laid
+  proper-strength sidePieces laid = (
+    record { force-real = real .N; capacity-proper = side-piece-proper (here .material) (here .section) (laid .joint) (laid .layout) },
+    net-height-kept (here .section .height) (laid .joint) (laid .layout),
+  )
+  proper-strength bending on = against-moment
+  proper-strength shear on = record { force-real = real .Q; capacity-proper = shear-proper (here .material) (here .section) }
+  proper-strength bucklingH steady = buckling steady
+  proper-strength bucklingB steady = buckling steady
+  proper-strength compressionBending (steady, force, moment) = combined-compression steady
+  proper-strength tensionBending on =
+      combined-proper (record { force-real = real .N; capacity-proper = tension-proper (here .material) (here .section) }) against-moment
 
 module _ (cells : List Cell) (m : Member) (whole : length cells ≡ cellCount) (given : accept cells ≡ gives m) where
   -- the strengths of the row are above zero
   pub strengths-proper : (stress : Stress) → Proper (exactStrength stress (m .material))
-  strengths-proper = strength-proper (sized-row m (m .kind) (accept-ranges cells m whole given) .material)
+  strengths-proper = strength-proper (accept-ranges cells m whole given .sized .material)
 
   -- a joint's terms are above zero, whatever its layout
   pub joint-proper : m .jointed ≡ true → ProperJoint m
   joint-proper e =
-      let j = joint-row m (m .kind) (accept-ranges cells m whole given) e in
+      let j = joined m (accept-ranges cells m whole given) e in
       record {
-        core = core-crushing-proper (j .0 .section .width) (j .1) (j .0 .material);
-        side = side-crushing-proper (j .0 .section .width) (j .1) (j .0 .material);
-        bending = dowel-bending-proper (j .0 .section .width) (j .1) (j .0 .material);
-        across = j .1 .across .low;
+        core = core-crushing-proper (j .sized .section .width) (j .joint) (j .sized .material);
+        side = side-crushing-proper (j .sized .section .width) (j .joint) (j .sized .material);
+        bending = dowel-bending-proper (j .sized .section .width) (j .joint) (j .sized .material);
+        across = j .joint .across .low;
       }
 
   module _ (hold : (c : Check) → LayoutOrSlenderness c → Has m c → Holds m (forcesOf m) c) where
     -- at any forces that are values, nothing in a strength check of the row is empty
     pub nothing-empty-at : (f : Forces) → Real f → (c : Strength) → Has m (strength c) → ProperAt m f c
     nothing-empty-at f real c has =
-        strength-row m f real (m .kind) (accept-ranges cells m whole given)
-        (λ d low a kept. hold (yesNo d) low (record { of-kind = a; kept = kept }))
-        c
-        (has .of-kind)
-        (has .kept)
+        let ranges = accept-ranges cells m whole given in
+        let holds : ExactHold m (m .kind) = λ d low a kept. hold (yesNo d) low (record { of-kind = a; kept = kept }) in
+        proper-strength m f real (ranges .sized) c (relied-on m (m .kind) ranges holds c (has .of-kind) (has .kept))
 
     -- nor at the forces of the cells
     pub nothing-empty : (c : Strength) → Has m (strength c) → ProperAt m (forcesOf m) c

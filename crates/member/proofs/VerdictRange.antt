@@ -28,7 +28,7 @@ use Rattle.member.specs.Verdict.{utilisationOf, countOnFail, judgeBy, ve
 use Rattle.member.specs.declared.member.Member.{Member}
 use Rattle.member.specs.declared.verdict.Verdict.{Verdict}
 use Rattle.member.proofs.AcceptanceLaws.{accept-ranges}
-use Rattle.member.proofs.RowChecks.{joint-row}
+use Rattle.member.proofs.Reliance.{joined}
 use Rattle.member.proofs.VerdictLaws.{governs, VerdictOutcome, verdict-outcome}
 
 -- the numbers of a verdict
@@ -77,7 +77,7 @@ module _ (m : Member) where
   count-most ranges = by (m .jointed) refl
     where
       by : (t : Bool) → m .jointed ≡ t → countOf m ≤ 6988121
-      by true e = let j = joint-row m (m .kind) ranges e in rw e (count-in (j .2) (j .0 .section .width) (j .1) (j .0 .material) .high)
+      by true e = let j = joined m ranges e in rw e (count-in (j .force) (j .sized .section .width) (j .joint) (j .sized .material) .high)
       by false e = rw e (lit≤ tt)
 
   fail-count-most : RangesOf (m .kind) m → (c : YesNo) → countOnFail m c ≤ 6988121

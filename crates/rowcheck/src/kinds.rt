@@ -26,7 +26,7 @@ use strength::design::design_strength;
 ghost use mathlib.Core.Path.{_≡_};
 ghost use mathlib.Core.Bool.{true, false};
 ghost use Rattle.sp64.specs.Joint.{JointRanges};
-ghost use Rattle.sp64.specs.Ranges.{InForce};
+ghost use Rattle.sp64.specs.Ranges.{InForce, InMoment};
 ghost use Rattle.member.specs.Ranges.{Sized, Braced, RangesOf};
 ghost use Rattle.member.specs.Verdict.{verdictBy, verdict};
 ghost use Rattle.member.specs.declared.kind.Kind.the-variants.{Tension as kind1, Bending as kind2, Compression as kind3, CompressionBending as kind4, TensionBending as kind5};
@@ -87,7 +87,7 @@ fn tension(m: Member) -> Verdict
 
 // Kind 2: checks 7 and 8.
 fn bending_alone(m: Member) -> Verdict
-    requires { ⌜ RangesOf kind2 m ⌝ }
+    requires { ⌜ Sized m × (m .jointed ≡ false) ⌝ }
     ensures { λ r. ⌜ r ≡ verdictBy kind2 m ⌝ }
 {
     by_strength(greater(bending_check(m), shear_check(m)), 0)
@@ -95,7 +95,7 @@ fn bending_alone(m: Member) -> Verdict
 
 // Kind 3: checks 2, 3, 9 and 10.
 fn compression(m: Member) -> Verdict
-    requires { ⌜ RangesOf kind3 m ⌝ }
+    requires { ⌜ Sized m × Braced m × (m .jointed ≡ false) ⌝ }
     ensures { λ r. ⌜ r ≡ verdictBy kind3 m ⌝ }
 {
     if !slender_across_height(m) {
@@ -113,7 +113,7 @@ fn compression(m: Member) -> Verdict
 
 // Kind 4: checks 2, 3 and 8 to 11.
 fn compression_with_bending(m: Member) -> Verdict
-    requires { ⌜ RangesOf kind4 m ⌝ }
+    requires { ⌜ Sized m × Braced m × InForce (m .force) × InMoment (m .moment) × (m .jointed ≡ false) ⌝ }
     ensures { λ r. ⌜ r ≡ verdictBy kind4 m ⌝ }
 {
     if !slender_across_height(m) {
@@ -133,7 +133,7 @@ fn compression_with_bending(m: Member) -> Verdict
 
 // Kind 5: checks 2, 3, 8 and 11.
 fn tension_with_bending(m: Member) -> Verdict
-    requires { ⌜ RangesOf kind5 m ⌝ }
+    requires { ⌜ Sized m × Braced m × (m .jointed ≡ false) ⌝ }
     ensures { λ r. ⌜ r ≡ verdictBy kind5 m ⌝ }
 {
     if !slender_across_height(m) {

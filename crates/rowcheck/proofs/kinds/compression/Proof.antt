@@ -51,7 +51,7 @@ returns-3 c =
     (governs _ _ refl (c .before .before .before .buckling-across-height .ensures) _
     (only _ _ refl (c .before .before .buckling-across-width .ensures))
     (c .before .greater .ensures))
-    (rw (slender .before .before .before .before .pre .3))
+    (rw (slender .before .before .before .before .pre .2))
     (c .by-strength .ensures)))
 
 pub compression-spec : {M : Type 1} → statement M

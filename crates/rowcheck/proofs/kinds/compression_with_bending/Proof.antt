@@ -68,7 +68,7 @@ returns-3 c =
     (buckling .greater .ensures))
     (c .before .before .before .greater2 .ensures))
     (c .before .greater3 .ensures))
-    (rw (slender .before .before .before .before .pre .5))
+    (rw (slender .before .before .before .before .pre .4))
     (c .by-strength .ensures)))
 
 pub compression-with-bending-spec : {M : Type 1} → statement M
