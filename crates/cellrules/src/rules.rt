@@ -39,7 +39,7 @@ fn is_within(lo: u32, hi: u32, n: u32) -> bool
 }
 
 // Whether a kind always fills cell n.
-fn is_required(kind: Kind, n: u32) -> bool
+pub fn is_required(kind: Kind, n: u32) -> bool
     ensures { λ r. ⌜ r ≡ required kind n ⌝ }
 {
     match kind {

@@ -1,139 +1,96 @@
-// Slenderness and the strength checks of a member. Layout, joint length and checks 5 and 6 stand with the joint, in `rowcheck`.
+// Slenderness and the strength checks, each of what it needs. Layout, joint length and checks 5 and 6 stand with the joint, in `rowcheck`.
 use governing::utilisation::against;
 use governing::utilisation::used_at;
-use member::member::Member;
 use member::verdict::Governing;
 use section::capacity::axial_capacity;
 use section::capacity::bending_capacity;
 use section::capacity::shear_capacity;
+use sp64::strength::Material;
+use sp64::strut::Strut;
 use sp64::tables::Stress;
 use stability::buckling::buckling_capacity;
 use stability::buckling::buckling_phi;
 use stability::buckling::euler_capacity;
 use stability::combined::compression_bending;
-use stability::combined::tension_bending;
 use stability::slenderness::slenderness_holds;
 use strength::design::design_strength;
 use strength::tables::slenderness_limit;
 ghost use mathlib.Core.Path.{_≡_};
-ghost use mathlib.Core.Bool.{_||_};
+ghost use mathlib.Core.Bool.{cond, _||_};
+ghost use lib.Dec.{eqb};
 ghost use Rattle.rounding.specs.Range.{Value};
-ghost use Rattle.sp64.specs.Ranges.{InForce, InMoment, InNR, InMR};
-ghost use Rattle.sp64.specs.declared.tables.Stress.the-variants.{Compression, Tension};
-ghost use Rattle.member.specs.Checks.{yesNo, slendernessH, slendernessB, bending, shear, bucklingH, bucklingB, compressionBending, tensionBending, omitted};
-ghost use Rattle.member.specs.Member.{NRof, MRof};
-ghost use Rattle.member.specs.Ranges.{Sized, Braced};
-ghost use Rattle.member.specs.Verdict.{holds, used};
+ghost use Rattle.rounding.specs.Utilisation.{utilisation};
+ghost use Rattle.sp64.specs.Buckling.{bucklingPhi, bucklingCapacity, eulerCapacity};
+ghost use Rattle.sp64.specs.Capacity.{Section, NR, MR, shearCapacity};
+ghost use Rattle.sp64.specs.Combined.{compressionBending};
+ghost use Rattle.sp64.specs.Ranges.{InForce, InLimit, InMR, InMoment, InNR};
+ghost use Rattle.sp64.specs.Slenderness.{StrutRanges, slendernessHolds};
+ghost use Rattle.sp64.specs.Strength.{MaterialRanges, designStrength};
+ghost use Rattle.sp64.specs.Tables.{slendernessLimit};
+ghost use Rattle.sp64.specs.declared.tables.Stress.the-variants.{Compression, Shear, Tension};
 
-// Check 2.
-pub fn slender_across_height(m: Member) -> bool
-    requires { ⌜ Sized m × Braced m ⌝ }
-    ensures { λ r. ⌜ r ≡ holds m slendernessH ⌝ }
+// The first of checks 2 and 3 that fails, 0 where none does, of the struts across the height and across the width; row 4 of Table 16 omits check 3.
+pub fn first_too_slender(table16: u64, height: Strut, width: Strut) -> u32
+    requires { ⌜ InLimit (slendernessLimit table16) × StrutRanges height × StrutRanges width ⌝ }
+    ensures { λ r. ⌜ r ≡ cond (slendernessHolds (slendernessLimit table16) height) (cond (eqb table16 4 || slendernessHolds (slendernessLimit table16) width) 0 3) 2 ⌝ }
 {
-    slenderness_holds(slenderness_limit(m.table16), m.lh, m.height)
-}
-
-// Check 3, which row 4 of Table 16 omits.
-pub fn slender_across_width(m: Member) -> bool
-    requires { ⌜ Sized m × Braced m ⌝ }
-    ensures { λ r. ⌜ r ≡ (omitted m (yesNo slendernessB) || holds m slendernessB) ⌝ }
-{
-    (m.table16 == 4) | slenderness_holds(slenderness_limit(m.table16), m.lb, m.width)
+    let limit = slenderness_limit(table16);
+    if !slenderness_holds(limit, height) {
+        return 2;
+    }
+    if (table16 == 4) | slenderness_holds(limit, width) {
+        0
+    } else {
+        3
+    }
 }
 
 // NR in tension.
-pub fn tension_resistance(m: Member) -> u64
-    requires { ⌜ Sized m ⌝ }
-    ensures { λ r. ⌜ Value InNR (NRof Tension m) r ⌝ }
+pub fn tension_resistance(b: u64, h: u64, material: Material) -> u64
+    requires { ⌜ Section b h × MaterialRanges material ⌝ }
+    ensures { λ r. ⌜ Value InNR (NR Tension b h material) r ⌝ }
 {
-    axial_capacity(
-        m.width,
-        m.height,
-        design_strength(Stress::Tension, m.material),
-    )
+    axial_capacity(b, h, design_strength(Stress::Tension, material))
 }
 
 // NR in compression.
-pub fn compression_resistance(m: Member) -> u64
-    requires { ⌜ Sized m ⌝ }
-    ensures { λ r. ⌜ Value InNR (NRof Compression m) r ⌝ }
+pub fn compression_resistance(b: u64, h: u64, material: Material) -> u64
+    requires { ⌜ Section b h × MaterialRanges material ⌝ }
+    ensures { λ r. ⌜ Value InNR (NR Compression b h material) r ⌝ }
 {
-    axial_capacity(
-        m.width,
-        m.height,
-        design_strength(Stress::Compression, m.material),
-    )
+    axial_capacity(b, h, design_strength(Stress::Compression, material))
 }
 
 // MR.
-pub fn moment_resistance(m: Member) -> u64
-    requires { ⌜ Sized m ⌝ }
-    ensures { λ r. ⌜ Value InMR (MRof m) r ⌝ }
+pub fn moment_resistance(b: u64, h: u64, material: Material) -> u64
+    requires { ⌜ Section b h × MaterialRanges material ⌝ }
+    ensures { λ r. ⌜ Value InMR (MR b h material) r ⌝ }
 {
-    bending_capacity(
-        m.width,
-        m.height,
-        design_strength(Stress::Bending, m.material),
-    )
-}
-
-// Check 7.
-pub fn bending_check(m: Member) -> Governing
-    requires { ⌜ Sized m ⌝ }
-    ensures { λ r. ⌜ r ≡ used m bending ⌝ }
-{
-    against(7, m.moment, moment_resistance(m))
+    bending_capacity(b, h, design_strength(Stress::Bending, material))
 }
 
 // Check 8.
-pub fn shear_check(m: Member) -> Governing
-    requires { ⌜ Sized m ⌝ }
-    ensures { λ r. ⌜ r ≡ used m shear ⌝ }
+pub fn shear_check(q: u64, b: u64, h: u64, material: Material) -> Governing
+    requires { ⌜ Section b h × MaterialRanges material ⌝ }
+    ensures { λ r. ⌜ r ≡ record { check = 8; utilisation = utilisation q (shearCapacity b h (designStrength Shear material)) } ⌝ }
 {
-    let r = design_strength(Stress::Shear, m.material);
-    against(8, m.shear, shear_capacity(m.width, m.height, r))
+    let r = design_strength(Stress::Shear, material);
+    against(8, q, shear_capacity(b, h, r))
 }
 
-// Check 9, with nr in compression.
-pub fn buckling_across_height(m: Member, nr: u64) -> Governing
-    requires { ⌜ Sized m × Braced m × Value InNR (NRof Compression m) nr ⌝ }
-    ensures { λ r. ⌜ r ≡ used m bucklingH ⌝ }
+// Checks 9 and 10, with nr in compression.
+pub fn buckling_check(check: u32, n: u64, nr: u64, strut: Strut) -> Governing
+    requires { ⌜ InNR nr × StrutRanges strut ⌝ }
+    ensures { λ r. ⌜ r ≡ record { check = check; utilisation = utilisation n (bucklingCapacity nr (bucklingPhi strut)) } ⌝ }
 {
-    against(
-        9,
-        m.force,
-        buckling_capacity(nr, buckling_phi(m.lh, m.height)),
-    )
+    against(check, n, buckling_capacity(nr, buckling_phi(strut)))
 }
 
-// Check 10, with nr in compression.
-pub fn buckling_across_width(m: Member, nr: u64) -> Governing
-    requires { ⌜ Sized m × Braced m × Value InNR (NRof Compression m) nr ⌝ }
-    ensures { λ r. ⌜ r ≡ used m bucklingB ⌝ }
+// Check 11 of kind 4, with nr in compression and the strut across the height.
+pub fn compression_bending_check(n: u64, m: u64, nr: u64, mr: u64, height: Strut) -> Governing
+    requires { ⌜ InForce n × InMoment m × InNR nr × InMR mr × StrutRanges height ⌝ }
+    ensures { λ r. ⌜ r ≡ record { check = 11; utilisation = compressionBending n m nr (eulerCapacity nr height) mr } ⌝ }
 {
-    against(
-        10,
-        m.force,
-        buckling_capacity(nr, buckling_phi(m.lb, m.width)),
-    )
-}
-
-// Check 11 of kind 4, with nr in compression.
-pub fn compression_bending_check(m: Member, nr: u64) -> Governing
-    requires { ⌜ Sized m × Braced m × InForce (m .force) × InMoment (m .moment) × Value InNR (NRof Compression m) nr ⌝ }
-    ensures { λ r. ⌜ r ≡ used m compressionBending ⌝ }
-{
-    let c = euler_capacity(nr, m.lh, m.height);
-    let mr = moment_resistance(m);
-    used_at(11, compression_bending(m.force, m.moment, nr, c, mr))
-}
-
-// Check 11 of kind 5.
-pub fn tension_bending_check(m: Member) -> Governing
-    requires { ⌜ Sized m ⌝ }
-    ensures { λ r. ⌜ r ≡ used m tensionBending ⌝ }
-{
-    let nr = tension_resistance(m);
-    let mr = moment_resistance(m);
-    used_at(11, tension_bending(m.force, m.moment, nr, mr))
+    let c = euler_capacity(nr, height);
+    used_at(11, compression_bending(n, m, nr, c, mr))
 }

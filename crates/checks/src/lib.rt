@@ -1,2 +1,2 @@
-// Slenderness and the strength checks of a member.
+// Slenderness and the strength checks.
 pub mod checks;

@@ -1,10 +1,12 @@
--- Which checks a kind has, by number; and that a row has both struts, where a careless hand would leave one out.
+-- Which checks a kind has, by number; that a row has both struts, where a careless hand would leave one out; and which cells each strut is of.
 -- Assumes nothing.
-use Prim.Native.Nat.{ℕ}
+use Prim.Native.Nat.{ℕ, _*_, _≤_}
 use mathlib.Core.List.{List, [], _∷_, _++_, map}
-use mathlib.Core.Logic.{_⊎_, inl, inr}
+use mathlib.Core.Logic.{_⊎_, inl, inr, _↔_}
 use mathlib.Core.Path.{_≡_, refl}
-use Rattle.member.specs.Checks.{YesNo, Strength, Has, yesNo, strength, number, yesNoOf, strengthOf, bucklingH, bucklingB}
+use Rattle.member.specs.Checks.{YesNo, Strength, Has, yesNo, strength, number, yesNoOf, strengthOf, slenderness, buckling}
+use Rattle.member.specs.Member.{acrossHeight, acrossWidth, limitOf}
+use Rattle.member.specs.Unrounded.{Forces, Holds}
 use Rattle.member.specs.declared.kind.Kind.{Kind}
 use Rattle.member.specs.declared.kind.Kind.the-variants.{Tension, Bending, Compression, CompressionBending, TensionBending}
 use Rattle.member.specs.declared.member.Member.{Member}
@@ -22,6 +24,12 @@ pub checks-of-kinds : (numbersOf Tension ≡ 1 ∷ 2 ∷ 3 ∷ 4 ∷ 5 ∷ 6 ∷
 checks-of-kinds = (refl, refl, refl, refl, refl)
 
 -- kinds 3 and 4 have checks 9 and 10 both, whichever strut is the longer or the more slender
-pub both-struts : (m : Member) → (m .kind ≡ Compression) ⊎ (m .kind ≡ CompressionBending) → Has m (strength bucklingH) × Has m (strength bucklingB)
+pub both-struts : (m : Member) → (m .kind ≡ Compression) ⊎ (m .kind ≡ CompressionBending) → Has m (strength (buckling acrossHeight)) × Has m (strength (buckling acrossWidth))
 both-struts m (inl e) = (record { of-kind = rw e (inl refl); kept = refl }, record { of-kind = rw e (inr (inl refl)); kept = refl })
 both-struts m (inr e) = (record { of-kind = rw e (inr (inl refl)); kept = refl }, record { of-kind = rw e (inr (inr (inl refl))); kept = refl })
+
+-- check 2 is of Lh and h, check 3 of Lb and b: 12 × L² ≤ limit² × s²
+pub struts-by-cells : (m : Member) (f : Forces)
+    → (Holds m f (yesNo (slenderness acrossHeight)) ↔ (12 * (m .lh * m .lh) ≤ limitOf m * limitOf m * (m .height * m .height)))
+    × (Holds m f (yesNo (slenderness acrossWidth)) ↔ (12 * (m .lb * m .lb) ≤ limitOf m * limitOf m * (m .width * m .width)))
+struts-by-cells m f = ((λ h. h, λ h. h), (λ h. h, λ h. h))

@@ -12,9 +12,9 @@ use Rattle.rounding.specs.Fraction.{scaled}
 use Rattle.rounding.proofs.Soundness.{Sound}
 use Rattle.sp64.proofs.YesNoChecks.{layout-iff, slenderness-iff}
 use Rattle.cells.specs.Greatest.{Among}
-use Rattle.member.specs.Checks.{Check, YesNo, Strength, yesNo, strength, number, yesNoOf, strengthOf, omitted, Has, layout, slendernessH, slendernessB, jointLength, netTension, sidePieces, bending, shear, bucklingH, bucklingB, compressionBending, tensionBending}
+use Rattle.member.specs.Checks.{Check, YesNo, Strength, yesNo, strength, number, yesNoOf, strengthOf, omitted, Has, layout, slenderness, jointLength, netTension, sidePieces, bending, shear, buckling, compressionBending, tensionBending}
 use Rattle.member.specs.Demand3.{EachFrom, FailsOn, LayoutOrSlenderness, FirstToFail, CountFor, Demand3At}
-use Rattle.member.specs.Member.{limitOf, countOf}
+use Rattle.member.specs.Member.{Across, acrossHeight, acrossWidth, strutOf, limitOf, countOf}
 use Rattle.member.specs.Unrounded.{Forces, times, Holds}
 use Rattle.member.specs.Verdict.{holds, utilisationOf, used, byStrength, countOnFail, failedOn, verdict}
 use Rattle.member.specs.declared.member.Member.{Member}
@@ -24,8 +24,8 @@ use Rattle.member.proofs.VerdictLaws.{yesNoNumber, strengthNumber, stre
 -- The numbers of the checks: yes-or-no checks have 1 to 4, each its own, and strength checks 5 and more.
 yes-no-low : (c : YesNo) → yesNoNumber c ≤ 4
 yes-no-low layout = lit≤ tt
-yes-no-low slendernessH = lit≤ tt
-yes-no-low slendernessB = lit≤ tt
+yes-no-low (slenderness acrossHeight) = lit≤ tt
+yes-no-low (slenderness acrossWidth) = lit≤ tt
 yes-no-low jointLength = lit≤ tt
 
 pub strength-high : (c : Strength) → 5 ≤ strengthNumber c
@@ -33,18 +33,23 @@ strength-high netTension = lit≤ tt
 strength-high sidePieces = lit≤ tt
 strength-high bending = lit≤ tt
 strength-high shear = lit≤ tt
-strength-high bucklingH = lit≤ tt
-strength-high bucklingB = lit≤ tt
+strength-high (buckling acrossHeight) = lit≤ tt
+strength-high (buckling acrossWidth) = lit≤ tt
 strength-high compressionBending = lit≤ tt
 strength-high tensionBending = lit≤ tt
 
+-- slenderness is check 2 or 3
+pub slenderness-low : (across : Across) → LayoutOrSlenderness (yesNo (slenderness across))
+slenderness-low acrossHeight = lit≤ tt
+slenderness-low acrossWidth = lit≤ tt
+
 abbrev yesNoAt : ℕ → YesNo
-yesNoAt n = cond (eqb n 1) layout (cond (eqb n 2) slendernessH (cond (eqb n 3) slendernessB jointLength))
+yesNoAt n = cond (eqb n 1) layout (cond (eqb n 2) (slenderness acrossHeight) (cond (eqb n 3) (slenderness acrossWidth) jointLength))
 
 yes-no-at : (c : YesNo) → yesNoAt (yesNoNumber c) ≡ c
 yes-no-at layout = refl
-yes-no-at slendernessH = refl
-yes-no-at slendernessB = refl
+yes-no-at (slenderness acrossHeight) = refl
+yes-no-at (slenderness acrossWidth) = refl
 yes-no-at jointLength = refl
 
 same-yes-no : (c d : YesNo) → yesNoNumber c ≡ yesNoNumber d → c ≡ d
@@ -66,16 +71,14 @@ module _ (m : Member) (f : Forces) where
   -- layout and slenderness round nothing
   pub exact : (c : YesNo) → LayoutOrSlenderness (yesNo c) → holds m c ≡ true ↔ Holds m f (yesNo c)
   exact layout low = layout-iff (m .height) (m .joint)
-  exact slendernessH low = slenderness-iff (limitOf m) (m .lh) (m .height)
-  exact slendernessB low = slenderness-iff (limitOf m) (m .lb) (m .width)
+  exact (slenderness across) low = slenderness-iff (limitOf m) (strutOf m across)
   exact jointLength low = absurd (omega arith)
 
   module _ {g : Check → ℕ} (s : ChecksSound g) (k : Check → ℕ) (big : EachFrom g k) where
     -- a yes-or-no check that holds, holds unrounded
     yes-no-holds : (c : YesNo) → omitted m (yesNo c) ≡ false → holds m c ≡ true → Holds m f (yesNo c)
     yes-no-holds layout kept e = exact layout (lit≤ tt) .0 e
-    yes-no-holds slendernessH kept e = exact slendernessH (lit≤ tt) .0 e
-    yes-no-holds slendernessB kept e = exact slendernessB (lit≤ tt) .0 e
+    yes-no-holds (slenderness across) kept e = exact (slenderness across) (slenderness-low across) .0 e
     yes-no-holds jointLength kept e = s .length-pass (not-false _ kept) e
 
     -- the verdict by strength, where c governs
@@ -163,8 +166,7 @@ module _ (m : Member) (f : Forces) where
       -- joint length is the one check that fails by its rounding
       fail-length : (d : YesNo) → (LayoutOrSlenderness (yesNo d) → ⊥) → omitted m (yesNo d) ≡ false → holds m d ≡ false → Holds m (times (k (yesNo d)) f) (yesNo d) → ⊥
       fail-length layout high kept e h = high (lit≤ tt)
-      fail-length slendernessH high kept e h = high (lit≤ tt)
-      fail-length slendernessB high kept e h = high (lit≤ tt)
+      fail-length (slenderness across) high kept e h = absurd (high (slenderness-low across))
       fail-length jointLength high kept e h = s .length-fail (not-false _ kept) e (k (yesNo jointLength)) (big (yesNo jointLength)) h
 
       fail-yes-no : (d : Check) → Has m d → (LayoutOrSlenderness d → ⊥) → FailsOn onCheck d → Holds m (times (k d) f) d → ⊥
@@ -179,8 +181,7 @@ module _ (m : Member) (f : Forces) where
 
       counted : (P : ℕ → Type 0) (d : YesNo) → (LayoutOrSlenderness (yesNo d) → ⊥) → P (countOf m) → P (countOnFail m d)
       counted P layout high p = absurd (high (lit≤ tt))
-      counted P slendernessH high p = absurd (high (lit≤ tt))
-      counted P slendernessB high p = absurd (high (lit≤ tt))
+      counted P (slenderness across) high p = absurd (high (slenderness-low across))
       counted P jointLength high p = p
 
       demand-yes-no : Demand3At m f onCheck k

@@ -14,7 +14,8 @@ use Rattle.cells.specs.declared.refusal.Refusal.{Refusal}
 use Rattle.cells.specs.declared.row.Cell.{Cell}
 use Rattle.sp64.specs.Joint.{ExactJointLength}
 use Rattle.member.specs.Acceptance.{accept}
-use Rattle.member.specs.Checks.{Check, yesNo, strength, Has, layout, slendernessH, slendernessB, jointLength, bending, compressionBending}
+use Rattle.member.specs.Checks.{Check, yesNo, strength, Has, layout, slenderness, jointLength, bending, compressionBending}
+use Rattle.member.specs.Member.{acrossHeight, acrossWidth}
 use Rattle.member.specs.Demand3.{demandFactor, keptFrom, LayoutOrSlenderness, CountFor, Demand3, KeepsDemand3}
 use Rattle.member.specs.Unrounded.{forcesOf, Holds}
 use Rattle.member.specs.Verdict.{judgeBy, verdict}
@@ -53,8 +54,8 @@ row-F-passed c u n d = too-long (d .pass refl (yesNo jointLength) (record { of-k
 -- Row E with another count. It keeps layout and slenderness.
 kept-E : (c : Check) → LayoutOrSlenderness c → Has memberE c → Holds memberE (forcesOf memberE) c
 kept-E (yesNo layout) low has = lit≤ tt
-kept-E (yesNo slendernessH) low has = lit≤ tt
-kept-E (yesNo slendernessB) low has = lit≤ tt
+kept-E (yesNo (slenderness acrossHeight)) low has = lit≤ tt
+kept-E (yesNo (slenderness acrossWidth)) low has = lit≤ tt
 kept-E (yesNo jointLength) low has = absurd (omega arith)
 kept-E (strength c) low has = absurd (omega (arith, strength-high c))
 

@@ -14,10 +14,10 @@ use Rattle.cells.specs.Lowest.{lowest}
 use Rattle.cells.specs.Refusal.{gives}
 use Rattle.cells.specs.Row.{cellCount}
 use Rattle.member.specs.Acceptance.{acceptKind, accept}
-use Rattle.member.specs.Checks.{Check, yesNo, strength, Has, layout, slendernessH, slendernessB, jointLength, netTension, sidePieces, bending, shear, bucklingH, bucklingB, compressionBending, tensionBending}
+use Rattle.member.specs.Checks.{Check, yesNo, strength, Has, layout, slenderness, jointLength, netTension, sidePieces, bending, shear, buckling, compressionBending, tensionBending}
 use Rattle.member.specs.Demand3.{demandFactor, LayoutOrSlenderness, CountFor, Demand3}
 use Rattle.member.specs.EdgeRows.{jointEdge, tensionEdge, bendingEdge, compressionEdge, compressionBendingEdge, tensionBendingEdge}
-use Rattle.member.specs.Member.{valuesOf, memberOf}
+use Rattle.member.specs.Member.{acrossHeight, acrossWidth, valuesOf, memberOf}
 use Rattle.member.specs.Unrounded.{forcesOf, times, Holds}
 use Rattle.member.specs.declared.kind.Kind.the-variants.{Tension, Bending, Compression, CompressionBending, TensionBending}
 use Rattle.member.specs.declared.member.Member.{Member}
@@ -57,8 +57,8 @@ past-4 h = omega (arith, h .least-count .holds .bending, h .least-columns .holds
 -- it keeps layout and slenderness
 kept : (c : Check) → LayoutOrSlenderness c → Has joint c → Holds joint (forcesOf joint) c
 kept (yesNo layout) low has = lit≤ tt
-kept (yesNo slendernessH) low has = lit≤ tt
-kept (yesNo slendernessB) low has = lit≤ tt
+kept (yesNo (slenderness acrossHeight)) low has = lit≤ tt
+kept (yesNo (slenderness acrossWidth)) low has = lit≤ tt
 kept (yesNo jointLength) low has = absurd (omega arith)
 kept (strength c) low has = absurd (omega (arith, strength-high c))
 
@@ -114,15 +114,15 @@ unfolding acceptKind lowest
 compression-edge-accepted = (refl, refl)
 
 pub fail-9 : (utilisation count : ℕ) → Demand3 strut (says false 9 utilisation count) demandFactor → ⊥
-fail-9 u n d = d .fail (strength bucklingH) (record { of-kind = inl refl; kept = refl }) (λ low. absurd (omega arith)) (record { fails = refl; names = refl }) (lit≤ tt)
+fail-9 u n d = d .fail (strength (buckling acrossHeight)) (record { of-kind = inl refl; kept = refl }) (λ low. absurd (omega arith)) (record { fails = refl; names = refl }) (lit≤ tt)
 
-pub past-9 : Holds strut (times 1006 (forcesOf strut)) (strength bucklingH) → ⊥
+pub past-9 : Holds strut (times 1006 (forcesOf strut)) (strength (buckling acrossHeight)) → ⊥
 past-9 h = past-it _ _ refl h
 
 pub fail-10 : (utilisation count : ℕ) → Demand3 strut (says false 10 utilisation count) demandFactor → ⊥
-fail-10 u n d = d .fail (strength bucklingB) (record { of-kind = inr (inl refl); kept = refl }) (λ low. absurd (omega arith)) (record { fails = refl; names = refl }) (lit≤ tt)
+fail-10 u n d = d .fail (strength (buckling acrossWidth)) (record { of-kind = inr (inl refl); kept = refl }) (λ low. absurd (omega arith)) (record { fails = refl; names = refl }) (lit≤ tt)
 
-pub past-10 : Holds strut (times 1006 (forcesOf strut)) (strength bucklingB) → ⊥
+pub past-10 : Holds strut (times 1006 (forcesOf strut)) (strength (buckling acrossWidth)) → ⊥
 past-10 h = past-it _ _ refl h
 
 -- Check 11.

@@ -13,7 +13,8 @@ use Rattle.rounding.proofs.Soundness.{utilisation-more}
 use Rattle.sp64.proofs.ForceLaws.{tension-bending-more, compression-bending-more, length-kept}
 use Rattle.member.specs.Acceptance.{accept}
 use Rattle.cells.specs.Greatest.{Among}
-use Rattle.member.specs.Checks.{YesNo, Strength, yesNo, strength, yesNoOf, strengthOf, omitted, layout, slendernessH, slendernessB, jointLength, netTension, sidePieces, bending, shear, bucklingH, bucklingB, compressionBending, tensionBending}
+use Rattle.member.specs.Checks.{YesNo, Strength, yesNo, strength, yesNoOf, strengthOf, omitted, layout, slenderness, jointLength, netTension, sidePieces, bending, shear, buckling, compressionBending, tensionBending}
+use Rattle.member.specs.Member.{acrossHeight, acrossWidth}
 use Rattle.member.specs.Verdict.{holds, utilisationOf, verdict, judged, checkRow}
 use Rattle.member.specs.declared.member.Member.{Member}
 use Rattle.member.specs.declared.verdict.Verdict.{Verdict}
@@ -69,8 +70,8 @@ module _ (m : Member) {N M Q : ℕ} (leN : N ≤ m .force) (leM : M ≤ m .momen
 
   hold-still : (c : YesNo) → (omitted m (yesNo c) ≡ false → holds m c ≡ true) → omitted lighter (yesNo c) ≡ false → holds lighter c ≡ true
   hold-still layout h kept = h kept
-  hold-still slendernessH h kept = h kept
-  hold-still slendernessB h kept = h kept
+  hold-still (slenderness acrossHeight) h kept = h kept
+  hold-still (slenderness acrossWidth) h kept = h kept
   hold-still jointLength h kept = by (m .jointed) refl (h kept)
     where
       by : (t : Bool) → m .jointed ≡ t → holds m jointLength ≡ true → holds lighter jointLength ≡ true
@@ -82,8 +83,8 @@ module _ (m : Member) {N M Q : ℕ} (leN : N ≤ m .force) (leM : M ≤ m .momen
   use-less sidePieces = utilisation-more _ leN
   use-less bending = utilisation-more _ leM
   use-less shear = utilisation-more _ leQ
-  use-less bucklingH = utilisation-more _ leN
-  use-less bucklingB = utilisation-more _ leN
+  use-less (buckling acrossHeight) = utilisation-more _ leN
+  use-less (buckling acrossWidth) = utilisation-more _ leN
   use-less compressionBending = compression-bending-more _ _ _ leN leM
   use-less tensionBending = tension-bending-more _ _ leN leM
 
@@ -92,8 +93,8 @@ module _ (m : Member) {N M Q : ℕ} (leN : N ≤ m .force) (leM : M ≤ m .momen
   kept-still sidePieces = refl
   kept-still bending = refl
   kept-still shear = refl
-  kept-still bucklingH = refl
-  kept-still bucklingB = refl
+  kept-still (buckling acrossHeight) = refl
+  kept-still (buckling acrossWidth) = refl
   kept-still compressionBending = refl
   kept-still tensionBending = refl
 

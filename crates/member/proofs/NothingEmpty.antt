@@ -18,16 +18,19 @@ use Rattle.sp64.specs.Joint.{coreCrushing, sideCrushing, dowelBending, exactTer
 use Rattle.sp64.specs.Strength.{exactStrength}
 use Rattle.sp64.specs.declared.tables.Stress.{Stress}
 use Rattle.sp64.specs.declared.tables.Stress.the-variants.{Compression as compressionStress, Tension as tensionStress, Shear as shearStress}
+use Rattle.sp64.specs.Slenderness.{L², s²}
+use Rattle.sp64.specs.declared.strut.Strut.{Strut}
+use Rattle.sp64.proofs.PhiLaws.{Steady}
 use Rattle.sp64.proofs.Denominators.{Proper, scaled-real, net-height-kept, stocky-phi-kept, phi-proper, slender-phi-proper, core-crushing-proper, side-crushing-proper, dowel-bending-proper, strength-proper, tension-proper, net-tension-proper, side-piece-proper, compression-proper, bending-proper, shear-proper, buckling-proper, euler-proper, share-real, remainder-proper, moment-real, combined-real}
 use Rattle.member.specs.Acceptance.{accept}
-use Rattle.member.specs.Checks.{Check, Strength, yesNo, strength, Has, layout, netTension, sidePieces, bending, shear, bucklingH, bucklingB, compressionBending, tensionBending}
+use Rattle.member.specs.Checks.{Check, Strength, yesNo, strength, Has, layout, netTension, sidePieces, bending, shear, buckling, compressionBending, tensionBending}
 use Rattle.member.specs.Demand3.{LayoutOrSlenderness}
-use Rattle.member.specs.Member.{limitOf, exactNRof, exactMRof}
+use Rattle.member.specs.Member.{acrossHeight, strutOf, limitOf, exactNRof, exactMRof}
 use Rattle.member.specs.Ranges.{Sized}
 use Rattle.member.specs.Unrounded.{Forces, forcesOf, times, Holds}
 use Rattle.member.specs.declared.member.Member.{Member}
 use Rattle.member.proofs.AcceptanceLaws.{accept-ranges}
-use Rattle.member.proofs.Reliance.{LaidOut, Steady, ReliesOn, ExactHold, joined, relied-on}
+use Rattle.member.proofs.Reliance.{LaidOut, ReliesOn, ExactHold, joined, relied-on}
 
 -- N, M and Q are values
 pub record Real (f : Forces) : Type 0 where
@@ -53,12 +56,12 @@ pub record ProperRatio (force capacity : Fraction) : Type 0 where
 abbrev pub HeightLeft : Member → Type 0
 HeightLeft m = m .joint .across * m .joint .diameter < m .height
 
--- checks 9 and 10, of a length L and a side s: NR, φ and their product; and up to the turn at 70 the first form of φ is not cut off
-pub record ProperBuckling (N NR : Fraction) (L s : ℕ) : Type 0 where
-  pub ratio : ProperRatio N (exactBucklingCapacity NR (exactBucklingPhi L s))
+-- checks 9 and 10: NR, φ and their product; and up to the turn at 70 the first form of φ is not cut off
+pub record ProperBuckling (N NR : Fraction) (strut : Strut) : Type 0 where
+  pub ratio : ProperRatio N (exactBucklingCapacity NR (exactBucklingPhi strut))
   pub axial : Proper NR
-  pub phi : Proper (exactBucklingPhi L s)
-  pub kept : stocky L s ≡ true → whole (960 * (L * L)) ⊘ whole (s * s) ≼ whole 1000000
+  pub phi : Proper (exactBucklingPhi strut)
+  pub kept : stocky strut ≡ true → whole (960 * L² strut) ⊘ whole (s² strut) ≼ whole 1000000
 
 -- check 11: N against NR, Md against MR, and the sum of their ratios
 pub record ProperCombined (N NR Md MR : Fraction) : Type 0 where
@@ -87,13 +90,12 @@ ProperAt m f sidePieces =
     ProperRatio (f .N) (exactSidePieceCapacity (m .height) (m .joint) (exactStrength tensionStress (m .material))) × HeightLeft m
 ProperAt m f bending = ProperRatio (f .M) (exactMRof m)
 ProperAt m f shear = ProperRatio (f .Q) (exactShearCapacity (m .width) (m .height) (exactStrength shearStress (m .material)))
-ProperAt m f bucklingH = ProperBuckling (f .N) (exactNRof compressionStress m) (m .lh) (m .height)
-ProperAt m f bucklingB = ProperBuckling (f .N) (exactNRof compressionStress m) (m .lb) (m .width)
+ProperAt m f (buckling across) = ProperBuckling (f .N) (exactNRof compressionStress m) (strutOf m across)
 ProperAt m f compressionBending =
-    Proper (exactSlenderPhi (m .lh) (m .height))
+    Proper (exactSlenderPhi (strutOf m acrossHeight))
     × ProperCompressionBending (f .N) (f .M)
     (exactNRof compressionStress m)
-    (exactEulerCapacity (exactNRof compressionStress m) (m .lh) (m .height))
+    (exactEulerCapacity (exactNRof compressionStress m) (strutOf m acrossHeight))
     (exactMRof m)
 ProperAt m f tensionBending =
     ProperCombined (f .N) (exactNRof tensionStress m) (f .M) (exactMRof m)
@@ -131,24 +133,24 @@ module _ (m : Member) (f : Forces) (real : Real f) (here : Sized m) where
   against-moment = record { force-real = real .M; capacity-proper = bending-proper (here .material) (here .section) }
 
   -- checks 9 and 10
-  buckling : {L s : ℕ} → Steady (limitOf m) L s → ProperBuckling (f .N) (exactNRof compressionStress m) L s
-  buckling {L} {s} steady =
+  proper-buckling : {strut : Strut} → Steady (limitOf m) strut → ProperBuckling (f .N) (exactNRof compressionStress m) strut
+  proper-buckling {strut} steady =
       record {
-        ratio = record { force-real = real .N; capacity-proper = buckling-proper (here .material) (here .section) (steady .length) (steady .side) (steady .most) (steady .slender) };
+        ratio = record { force-real = real .N; capacity-proper = buckling-proper (here .material) (here .section) steady };
         axial = against-force .capacity-proper;
-        phi = phi-proper (steady .length) (steady .side) (steady .most) (steady .slender);
-        kept = stocky-phi-kept L s;
+        phi = phi-proper steady;
+        kept = stocky-phi-kept strut;
       }
 
   -- check 11 of kind 4
-  combined-compression : Steady (limitOf m) (m .lh) (m .height) → ProperAt m f compressionBending
+  combined-compression : Steady (limitOf m) (strutOf m acrossHeight) → ProperAt m f compressionBending
   combined-compression steady =
       let N = f .N in
       let M = f .M in
-      let C = exactEulerCapacity (exactNRof compressionStress m) (m .lh) (m .height) in
-      let euler : Proper C = euler-proper (here .material) (here .section) (steady .length) (steady .side) (steady .most) (steady .slender) in
+      let C = exactEulerCapacity (exactNRof compressionStress m) (strutOf m acrossHeight) in
+      let euler : Proper C = euler-proper (here .material) (here .section) steady in
       let Md-real = moment-real N M C (real .N) (real .M) euler in (
-        slender-phi-proper (steady .length) (steady .side) (steady .most) (steady .slender),
+        slender-phi-proper steady,
         record {
           axial = against-force;
           moment = against-moment;
@@ -168,8 +170,7 @@ module _ (m : Member) (f : Forces) (real : Real f) (here : Sized m) where
   )
   proper-strength bending on = against-moment
   proper-strength shear on = record { force-real = real .Q; capacity-proper = shear-proper (here .material) (here .section) }
-  proper-strength bucklingH steady = buckling steady
-  proper-strength bucklingB steady = buckling steady
+  proper-strength (buckling across) steady = proper-buckling steady
   proper-strength compressionBending (steady, force, moment) = combined-compression steady
   proper-strength tensionBending on =
       combined-proper (record { force-real = real .N; capacity-proper = tension-proper (here .material) (here .section) }) against-moment

@@ -1,6 +1,6 @@
 -- What each check of an accepted row relies on: the ranges of what it takes, and layout or slenderness where it needs them.
 -- Assumes nothing.
-use Prim.Native.Nat.{ℕ, _≤_}
+use Prim.Native.Nat.{_≤_}
 use native.Mathlib.Omega.{arith}
 use mathlib.Core.Path.{_≡_, refl}
 use mathlib.Core.Logic.{inl, inr}
@@ -10,18 +10,20 @@ use lib.Dec.{lit≤}
 use Rattle.rounding.proofs.Ranges.{in-wide}
 use Rattle.cells.specs.Greatest.{Among}
 use Rattle.sp64.specs.Joint.{JointRanges, Layout}
-use Rattle.sp64.specs.Ranges.{InForce, InMoment, InLength, InSide, InLimit}
-use Rattle.sp64.specs.Slenderness.{Slenderness}
+use Rattle.sp64.specs.Ranges.{InForce, InMoment}
+use Rattle.sp64.specs.Slenderness.{StrutRanges}
+use Rattle.sp64.proofs.PhiLaws.{Steady}
 use Rattle.member.specs.Cells.{required, optional}
-use Rattle.member.specs.Checks.{Strength, YesNo, yesNo, strength, yesNoOf, strengthOf, omitted, layout, slendernessH, slendernessB, netTension, sidePieces, bending, shear, bucklingH, bucklingB, compressionBending, tensionBending}
+use Rattle.member.specs.Checks.{Strength, YesNo, yesNo, strength, yesNoOf, strengthOf, omitted, layout, slenderness, netTension, sidePieces, bending, shear, buckling, compressionBending, tensionBending}
 use Rattle.member.specs.Demand3.{LayoutOrSlenderness}
-use Rattle.member.specs.Member.{limitOf}
-use Rattle.member.specs.Ranges.{Sized, RangesOf}
+use Rattle.member.specs.Member.{Across, acrossHeight, acrossWidth, strutOf, limitOf}
+use Rattle.member.specs.Ranges.{Sized, Braced, RangesOf}
 use Rattle.member.specs.Unrounded.{forcesOf, Holds}
 use Rattle.member.specs.declared.kind.Kind.{Kind}
 use Rattle.member.specs.declared.kind.Kind.the-variants.{Tension, Bending, Compression, CompressionBending, TensionBending}
 use Rattle.member.specs.declared.member.Member.{Member}
 use Rattle.member.proofs.VerdictLaws.{clash}
+use Rattle.member.proofs.DemandLaws.{slenderness-low}
 
 -- the joint and the force on it, cells 8 and 14 to 22
 pub record Joined (m : Member) : Type 0 where
@@ -34,22 +36,14 @@ pub record LaidOut (m : Member) : Type 0 where
   pub joint : JointRanges (m .joint)
   pub layout : Layout (m .height) (m .joint)
 
--- a length and a side across which the member buckles, within its limit of slenderness
-pub record Steady (limit L s : ℕ) : Type 0 where
-  pub length : InLength L
-  pub side : InSide s
-  pub most : InLimit limit
-  pub slender : Slenderness limit L s
-
 -- what strength check c relies on, beside the grade and the section
 abbrev pub ReliesOn : Member → Strength → Type 0
 ReliesOn m netTension = m .jointed ≡ true → LaidOut m
 ReliesOn m sidePieces = LaidOut m
 ReliesOn m bending = Unit
 ReliesOn m shear = Unit
-ReliesOn m bucklingH = Steady (limitOf m) (m .lh) (m .height)
-ReliesOn m bucklingB = Steady (limitOf m) (m .lb) (m .width)
-ReliesOn m compressionBending = Steady (limitOf m) (m .lh) (m .height) × InForce (m .force) × InMoment (m .moment)
+ReliesOn m (buckling across) = Steady (limitOf m) (strutOf m across)
+ReliesOn m compressionBending = Steady (limitOf m) (strutOf m acrossHeight) × InForce (m .force) × InMoment (m .moment)
 ReliesOn m tensionBending = Unit
 
 module _ (m : Member) where
@@ -74,25 +68,19 @@ module _ (m : Member) where
     laid-out : Among layout (yesNoOf kind) → ExactHold kind → m .jointed ≡ true → LaidOut m
     laid-out a hold e = record { joint = ranges .joint e; layout = hold layout (lit≤ tt) a (rw e refl) }
 
-    -- slenderness across the height
-    steady-height : Among slendernessH (yesNoOf kind) → required kind 11 ≡ true → ExactHold kind → Steady (limitOf m) (m .lh) (m .height)
-    steady-height a has hold =
-        record {
-          length = ranges .braced has .lh;
-          side = in-wide 20 2500 (lit≤ tt) (lit≤ tt) (ranges .sized .section .height);
-          most = ranges .braced has .limit;
-          slender = hold slendernessH (lit≤ tt) a refl;
-        }
+    -- the ranges of both struts
+    pub struts-in : required kind 11 ≡ true → (across : Across) → StrutRanges (strutOf m across)
+    struts-in has acrossHeight = record { length = ranges .braced has .lh; side = in-wide 20 2500 (lit≤ tt) (lit≤ tt) (ranges .sized .section .height) }
+    struts-in has acrossWidth = record { length = ranges .braced has .lb; side = in-wide 20 2500 (lit≤ tt) (lit≤ tt) (ranges .sized .section .width) }
 
-    -- and across the width, in the rows of Table 16 that are those of kinds 3 and 4: row 4 alone omits check 3
-    steady-width : Among slendernessB (yesNoOf kind) → required kind 11 ≡ true → m .table16 ≤ 3 → ExactHold kind → Steady (limitOf m) (m .lb) (m .width)
-    steady-width a has low hold =
-        record {
-          length = ranges .braced has .lb;
-          side = in-wide 20 2500 (lit≤ tt) (lit≤ tt) (ranges .sized .section .width);
-          most = ranges .braced has .limit;
-          slender = hold slendernessB (lit≤ tt) a (ne-eqb (m .table16) 4 (λ e. omega arith));
-        }
+    -- slenderness holds across the height or the width, where the row has that check
+    steady : (across : Across) → required kind 11 ≡ true → Among (slenderness across) (yesNoOf kind) → omitted m (yesNo (slenderness across)) ≡ false → ExactHold kind → Steady (limitOf m) (strutOf m across)
+    steady across has a kept hold =
+        record { ranges = struts-in has across; most = ranges .braced has .limit; slender = hold (slenderness across) (slenderness-low across) a kept }
+
+  -- row 4 of Table 16, which omits check 3, is none of kinds 3 and 4
+  not-row-4 : m .table16 ≤ 3 → omitted m (yesNo (slenderness acrossWidth)) ≡ false
+  not-row-4 low = ne-eqb (m .table16) 4 (λ e. omega arith)
 
   -- each strength check of an accepted row has what it relies on
   pub relied-on : (kind : Kind) → RangesOf kind m → ExactHold kind → (c : Strength) → Among c (strengthOf kind) → omitted m (strength c) ≡ false → ReliesOn m c
@@ -102,14 +90,14 @@ module _ (m : Member) where
   relied-on Bending ranges hold c (inl e) kept = rw e tt
   relied-on Bending ranges hold c (inr (inl e)) kept = rw e tt
   relied-on Bending ranges hold c (inr (inr a)) kept = absurd a
-  relied-on Compression ranges hold c (inl e) kept = rw e (steady-height ranges (inl refl) refl hold)
-  relied-on Compression ranges hold c (inr (inl e)) kept = rw e (steady-width ranges (inr (inl refl)) refl (ranges .table16 refl refl) hold)
+  relied-on Compression ranges hold c (inl e) kept = rw e (steady ranges acrossHeight refl (inl refl) refl hold)
+  relied-on Compression ranges hold c (inr (inl e)) kept = rw e (steady ranges acrossWidth refl (inr (inl refl)) (not-row-4 (ranges .table16 refl refl)) hold)
   relied-on Compression ranges hold c (inr (inr a)) kept = absurd a
   relied-on CompressionBending ranges hold c (inl e) kept = rw e tt
-  relied-on CompressionBending ranges hold c (inr (inl e)) kept = rw e (steady-height ranges (inl refl) refl hold)
-  relied-on CompressionBending ranges hold c (inr (inr (inl e))) kept = rw e (steady-width ranges (inr (inl refl)) refl (ranges .table16 refl refl) hold)
+  relied-on CompressionBending ranges hold c (inr (inl e)) kept = rw e (steady ranges acrossHeight refl (inl refl) refl hold)
+  relied-on CompressionBending ranges hold c (inr (inr (inl e))) kept = rw e (steady ranges acrossWidth refl (inr (inl refl)) (not-row-4 (ranges .table16 refl refl)) hold)
   relied-on CompressionBending ranges hold c (inr (inr (inr (inl e)))) kept =
-      rw e (steady-height ranges (inl refl) refl hold, ranges .force refl, ranges .moment refl)
+      rw e (steady ranges acrossHeight refl (inl refl) refl hold, ranges .force refl, ranges .moment refl)
   relied-on CompressionBending ranges hold c (inr (inr (inr (inr a)))) kept = absurd a
   relied-on TensionBending ranges hold c (inl e) kept = rw e tt
   relied-on TensionBending ranges hold c (inr (inl e)) kept = rw e tt

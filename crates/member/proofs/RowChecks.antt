@@ -9,7 +9,7 @@ use Rattle.rounding.proofs.FractionLaws.{whole-rounds}
 use Rattle.sp64.proofs.Checks.{tension-sound, net-tension-sound, side-piece-sound, bending-sound, shear-sound, buckling-sound, compression-bending-sound, tension-bending-sound}
 use Rattle.sp64.proofs.JointLaws.{count-above, count-below, joint-length-pass, joint-length-fail}
 use Rattle.cells.specs.Greatest.{Among}
-use Rattle.member.specs.Checks.{Check, Strength, strength, yesNoOf, strengthOf, omitted, netTension, sidePieces, bending, shear, bucklingH, bucklingB, compressionBending, tensionBending}
+use Rattle.member.specs.Checks.{Check, Strength, strength, yesNoOf, strengthOf, omitted, netTension, sidePieces, bending, shear, buckling, compressionBending, tensionBending}
 use Rattle.member.specs.Ranges.{Sized, RangesOf}
 use Rattle.member.specs.Unrounded.{Forces, forcesOf}
 use Rattle.member.specs.declared.kind.Kind.{Kind}
@@ -29,8 +29,7 @@ RoundsUpFor m f netTension = RoundsUpTo (m .force) (f .N)
 RoundsUpFor m f sidePieces = RoundsUpTo (m .force) (f .N)
 RoundsUpFor m f bending = RoundsUpTo (m .moment) (f .M)
 RoundsUpFor m f shear = RoundsUpTo (m .shear) (f .Q)
-RoundsUpFor m f bucklingH = RoundsUpTo (m .force) (f .N)
-RoundsUpFor m f bucklingB = RoundsUpTo (m .force) (f .N)
+RoundsUpFor m f (buckling across) = RoundsUpTo (m .force) (f .N)
 RoundsUpFor m f compressionBending = f ≡ forcesOf m
 RoundsUpFor m f tensionBending = f ≡ forcesOf m
 
@@ -40,8 +39,7 @@ cells-round m netTension = whole-rounds (m .force)
 cells-round m sidePieces = whole-rounds (m .force)
 cells-round m bending = whole-rounds (m .moment)
 cells-round m shear = whole-rounds (m .shear)
-cells-round m bucklingH = whole-rounds (m .force)
-cells-round m bucklingB = whole-rounds (m .force)
+cells-round m (buckling across) = whole-rounds (m .force)
 cells-round m compressionBending = refl
 cells-round m tensionBending = refl
 
@@ -60,10 +58,9 @@ module _ (m : Member) (f : Forces) (here : Sized m) where
   sound-strength sidePieces up laid = side-piece-sound (here .material) (here .section) up (laid .joint) (laid .layout)
   sound-strength bending up on = bending-sound (here .material) (here .section) up
   sound-strength shear up on = shear-sound (here .material) (here .section) up
-  sound-strength bucklingH up steady = buckling-sound (here .material) (here .section) up (steady .length) (steady .side) (steady .most) (steady .slender)
-  sound-strength bucklingB up steady = buckling-sound (here .material) (here .section) up (steady .length) (steady .side) (steady .most) (steady .slender)
+  sound-strength (buckling across) up steady = buckling-sound (here .material) (here .section) up steady
   sound-strength compressionBending up (steady, force, moment) =
-      rw up (compression-bending-sound (here .material) (here .section) (force .low) (moment .low) (steady .length) (steady .most) (steady .slender))
+      rw up (compression-bending-sound (here .material) (here .section) (force .low) (moment .low) steady)
   sound-strength tensionBending up on = rw up (tension-bending-sound (here .material) (here .section) (m .force) (m .moment))
 
 module _ (m : Member) where

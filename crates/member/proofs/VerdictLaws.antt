@@ -10,8 +10,8 @@ use mathlib.Core.List.{List, [], _∷_, _++_}
 use borrow.Author.Tests.{not-true}
 use Rattle.cells.specs.Greatest.{Among}
 use Rattle.cells.proofs.GreatestLaws.{FirstGreatest, Found, among-cases, greatest-among, greatest-above, greatest-meaning}
-use Rattle.member.specs.Checks.{YesNo, Strength, yesNo, strength, number, yesNoOf, strengthOf, omitted, netTension, bending, shear, bucklingH}
-use Rattle.member.specs.Member.{countOf}
+use Rattle.member.specs.Checks.{YesNo, Strength, yesNo, strength, number, yesNoOf, strengthOf, omitted, netTension, bending, shear, buckling}
+use Rattle.member.specs.Member.{acrossHeight, countOf}
 use Rattle.member.specs.Verdict.{holds, utilisationOf, used, governedBy, hasStrength, governing, byStrength, countOnFail, failedOn, judgeBy}
 use Rattle.member.specs.declared.kind.Kind.{Kind}
 use Rattle.member.specs.declared.kind.Kind.the-variants.{Tension, Bending, Compression, CompressionBending, TensionBending}
@@ -162,7 +162,7 @@ module _ (m : Member) where
   pub governs : (kind : Kind) → (c : Strength) × Governs (strengthOf kind) c × (governing m (strengthOf kind) ≡ used m c)
   governs Tension = first-kept (strengthOf Tension) (strength-rising Tension) netTension (inl refl) refl
   governs Bending = first-kept (strengthOf Bending) (strength-rising Bending) bending (inl refl) refl
-  governs Compression = first-kept (strengthOf Compression) (strength-rising Compression) bucklingH (inl refl) refl
+  governs Compression = first-kept (strengthOf Compression) (strength-rising Compression) (buckling acrossHeight) (inl refl) refl
   governs CompressionBending = first-kept (strengthOf CompressionBending) (strength-rising CompressionBending) shear (inl refl) refl
   governs TensionBending = first-kept (strengthOf TensionBending) (strength-rising TensionBending) shear (inl refl) refl
 

@@ -20,9 +20,9 @@ use Rattle.sp64.specs.Combined.{axialShare, secondOrderMoment, combined, compre
 use Rattle.sp64.specs.declared.tables.Stress.the-variants.{Compression}
 use Rattle.sp64.proofs.JointLaws.{count-in}
 use Rattle.member.specs.Acceptance.{acceptKind, accept}
-use Rattle.member.specs.Checks.{Check, YesNo, Strength, yesNo, strength, number, layout, slendernessH, slendernessB, jointLength, netTension, sidePieces, bending, shear, bucklingH, bucklingB, compressionBending, tensionBending}
+use Rattle.member.specs.Checks.{Check, YesNo, Strength, yesNo, strength, number, layout, slenderness, jointLength, netTension, sidePieces, bending, shear, buckling, compressionBending, tensionBending}
 use Rattle.member.specs.EdgeRows.{mostDowels, mostUsed}
-use Rattle.member.specs.Member.{countOf, NRof, MRof}
+use Rattle.member.specs.Member.{acrossHeight, acrossWidth, strutOf, countOf, NRof, MRof}
 use Rattle.member.specs.Ranges.{RangesOf}
 use Rattle.member.specs.Verdict.{utilisationOf, countOnFail, judgeBy, verdict, checkRow}
 use Rattle.member.specs.declared.member.Member.{Member}
@@ -39,15 +39,15 @@ pub record VerdictRange (v : Verdict) : Type 0 where
 
 number-in : (c : Check) → In 1 11 (number c)
 number-in (yesNo layout) = omega arith
-number-in (yesNo slendernessH) = omega arith
-number-in (yesNo slendernessB) = omega arith
+number-in (yesNo (slenderness acrossHeight)) = omega arith
+number-in (yesNo (slenderness acrossWidth)) = omega arith
 number-in (yesNo jointLength) = omega arith
 number-in (strength netTension) = omega arith
 number-in (strength sidePieces) = omega arith
 number-in (strength bending) = omega arith
 number-in (strength shear) = omega arith
-number-in (strength bucklingH) = omega arith
-number-in (strength bucklingB) = omega arith
+number-in (strength (buckling acrossHeight)) = omega arith
+number-in (strength (buckling acrossWidth)) = omega arith
 number-in (strength compressionBending) = omega arith
 number-in (strength tensionBending) = omega arith
 
@@ -66,10 +66,9 @@ module _ (m : Member) where
   utilisation-most sidePieces = min-le-left 9999999 _
   utilisation-most bending = min-le-left 9999999 _
   utilisation-most shear = min-le-left 9999999 _
-  utilisation-most bucklingH = min-le-left 9999999 _
-  utilisation-most bucklingB = min-le-left 9999999 _
+  utilisation-most (buckling across) = min-le-left 9999999 _
   utilisation-most compressionBending =
-      let NR = NRof Compression m in combined-most (m .force) (m .moment) NR (eulerCapacity NR (m .lh) (m .height)) (MRof m)
+      let NR = NRof Compression m in combined-most (m .force) (m .moment) NR (eulerCapacity NR (strutOf m acrossHeight)) (MRof m)
   utilisation-most tensionBending = min-le-left 9999999 _
 
   -- the count, by whether the row has a joint
@@ -82,8 +81,7 @@ module _ (m : Member) where
 
   fail-count-most : RangesOf (m .kind) m → (c : YesNo) → countOnFail m c ≤ 6988121
   fail-count-most ranges layout = lit≤ tt
-  fail-count-most ranges slendernessH = lit≤ tt
-  fail-count-most ranges slendernessB = lit≤ tt
+  fail-count-most ranges (slenderness across) = lit≤ tt
   fail-count-most ranges jointLength = count-most ranges
 
   pub verdict-range : RangesOf (m .kind) m → VerdictRange (verdict m)

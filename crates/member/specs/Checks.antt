@@ -6,25 +6,24 @@ use mathlib.Core.Bool.{Bool, false, not}
 use mathlib.Core.List.{List, [], _∷_}
 use lib.Dec.{eqb}
 use Rattle.cells.specs.Greatest.{Among}
+use Rattle.member.specs.Member.{Across, acrossHeight, acrossWidth}
 use Rattle.member.specs.declared.kind.Kind.{Kind}
 use Rattle.member.specs.declared.kind.Kind.the-variants.{Tension, Bending, Compression, CompressionBending, TensionBending}
 use Rattle.member.specs.declared.member.Member.{Member}
 
--- the yes-or-no checks; slenderness across the height and across the width
+-- the yes-or-no checks
 pub data YesNo : Type 0 where
   layout : YesNo
-  slendernessH : YesNo
-  slendernessB : YesNo
+  slenderness : Across → YesNo
   jointLength : YesNo
 
--- the strength checks; buckling across the height and across the width; check 11 of kind 4 and of kind 5
+-- the strength checks; check 11 of kind 4 and of kind 5
 pub data Strength : Type 0 where
   netTension : Strength
   sidePieces : Strength
   bending : Strength
   shear : Strength
-  bucklingH : Strength
-  bucklingB : Strength
+  buckling : Across → Strength
   compressionBending : Strength
   tensionBending : Strength
 
@@ -36,46 +35,46 @@ pub data Check : Type 0 where
 -- document 01's number of a check
 abbrev pub number : Check → ℕ
 number (yesNo layout) = 1
-number (yesNo slendernessH) = 2
-number (yesNo slendernessB) = 3
+number (yesNo (slenderness acrossHeight)) = 2
+number (yesNo (slenderness acrossWidth)) = 3
 number (yesNo jointLength) = 4
 number (strength netTension) = 5
 number (strength sidePieces) = 6
 number (strength bending) = 7
 number (strength shear) = 8
-number (strength bucklingH) = 9
-number (strength bucklingB) = 10
+number (strength (buckling acrossHeight)) = 9
+number (strength (buckling acrossWidth)) = 10
 number (strength compressionBending) = 11
 number (strength tensionBending) = 11
 
 -- the yes-or-no checks of a kind, in the order in which they are taken
 abbrev pub yesNoOf : Kind → List YesNo
-yesNoOf Tension = layout ∷ slendernessH ∷ slendernessB ∷ jointLength ∷ []
+yesNoOf Tension = layout ∷ slenderness acrossHeight ∷ slenderness acrossWidth ∷ jointLength ∷ []
 yesNoOf Bending = []
-yesNoOf Compression = slendernessH ∷ slendernessB ∷ []
-yesNoOf CompressionBending = slendernessH ∷ slendernessB ∷ []
-yesNoOf TensionBending = slendernessH ∷ slendernessB ∷ []
+yesNoOf Compression = slenderness acrossHeight ∷ slenderness acrossWidth ∷ []
+yesNoOf CompressionBending = slenderness acrossHeight ∷ slenderness acrossWidth ∷ []
+yesNoOf TensionBending = slenderness acrossHeight ∷ slenderness acrossWidth ∷ []
 
 -- the strength checks of a kind, the lowest number first
 abbrev pub strengthOf : Kind → List Strength
 strengthOf Tension = netTension ∷ sidePieces ∷ []
 strengthOf Bending = bending ∷ shear ∷ []
-strengthOf Compression = bucklingH ∷ bucklingB ∷ []
-strengthOf CompressionBending = shear ∷ bucklingH ∷ bucklingB ∷ compressionBending ∷ []
+strengthOf Compression = buckling acrossHeight ∷ buckling acrossWidth ∷ []
+strengthOf CompressionBending = shear ∷ buckling acrossHeight ∷ buckling acrossWidth ∷ compressionBending ∷ []
 strengthOf TensionBending = shear ∷ tensionBending ∷ []
 
 -- the checks of a kind that a row does without: 1, 4 and 6 if it has no joint, 3 in row 4 of Table 16
 abbrev pub omitted : Member → Check → Bool
 omitted m (yesNo layout) = not (m .jointed)
-omitted m (yesNo slendernessH) = false
-omitted m (yesNo slendernessB) = eqb (m .table16) 4
+omitted m (yesNo (slenderness acrossHeight)) = false
+omitted m (yesNo (slenderness acrossWidth)) = eqb (m .table16) 4
 omitted m (yesNo jointLength) = not (m .jointed)
 omitted m (strength netTension) = false
 omitted m (strength sidePieces) = not (m .jointed)
 omitted m (strength bending) = false
 omitted m (strength shear) = false
-omitted m (strength bucklingH) = false
-omitted m (strength bucklingB) = false
+omitted m (strength (buckling acrossHeight)) = false
+omitted m (strength (buckling acrossWidth)) = false
 omitted m (strength compressionBending) = false
 omitted m (strength tensionBending) = false
 

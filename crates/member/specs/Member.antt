@@ -11,6 +11,7 @@ use Rattle.sp64.specs.Joint.{jointCount}
 use Rattle.sp64.specs.Strength.{materialOf}
 use Rattle.sp64.specs.Tables.{slendernessLimit}
 use Rattle.sp64.specs.declared.joint.Joint.{Joint}
+use Rattle.sp64.specs.declared.strut.Strut.{Strut}
 use Rattle.sp64.specs.declared.tables.Stress.{Stress}
 use Rattle.member.specs.Cells.{valueOf}
 use Rattle.member.specs.declared.kind.Kind.{Kind}
@@ -56,6 +57,16 @@ memberOf kind jointed values =
       jointed = jointed;
       joint = jointOf values;
     }
+
+-- the ways in which a member may buckle
+pub data Across : Type 0 where
+  acrossHeight : Across
+  acrossWidth : Across
+
+-- the member as a strut: Lh with h, and Lb with b
+abbrev pub strutOf : Member → Across → Strut
+strutOf m acrossHeight = record { length = m .lh; side = m .height }
+strutOf m acrossWidth = record { length = m .lb; side = m .width }
 
 -- the slenderness limit of checks 2 and 3
 abbrev pub limitOf : Member → ℕ

@@ -10,8 +10,8 @@ use Rattle.sp64.specs.Joint.{Layout, ExactJointLength}
 use Rattle.sp64.specs.Slenderness.{Slenderness}
 use Rattle.sp64.specs.Strength.{exactStrength}
 use Rattle.sp64.specs.declared.tables.Stress.the-variants.{Compression, Tension, Shear}
-use Rattle.member.specs.Checks.{Check, yesNo, strength, layout, slendernessH, slendernessB, jointLength, netTension, sidePieces, bending, shear, bucklingH, bucklingB, compressionBending, tensionBending}
-use Rattle.member.specs.Member.{limitOf, exactNRof, exactMRof}
+use Rattle.member.specs.Checks.{Check, yesNo, strength, layout, slenderness, jointLength, netTension, sidePieces, bending, shear, buckling, compressionBending, tensionBending}
+use Rattle.member.specs.Member.{acrossHeight, strutOf, limitOf, exactNRof, exactMRof}
 use Rattle.member.specs.declared.member.Member.{Member}
 
 -- N, M and Q as exact values
@@ -31,8 +31,7 @@ times k f = record { N = scaled k (f .N); M = scaled k (f .M); Q = scaled k (f .
 -- check c holds unrounded at the forces f
 abbrev pub Holds : Member → Forces → Check → Type 0
 Holds m f (yesNo layout) = Layout (m .height) (m .joint)
-Holds m f (yesNo slendernessH) = Slenderness (limitOf m) (m .lh) (m .height)
-Holds m f (yesNo slendernessB) = Slenderness (limitOf m) (m .lb) (m .width)
+Holds m f (yesNo (slenderness across)) = Slenderness (limitOf m) (strutOf m across)
 Holds m f (yesNo jointLength) = ExactJointLength (f .N) (m .width) (m .joint) (m .material)
 Holds m f (strength netTension) =
     f .N
@@ -42,14 +41,12 @@ Holds m f (strength netTension) =
 Holds m f (strength sidePieces) = f .N ≼ exactSidePieceCapacity (m .height) (m .joint) (exactStrength Tension (m .material))
 Holds m f (strength bending) = f .M ≼ exactMRof m
 Holds m f (strength shear) = f .Q ≼ exactShearCapacity (m .width) (m .height) (exactStrength Shear (m .material))
-Holds m f (strength bucklingH) =
-    f .N ≼ exactBucklingCapacity (exactNRof Compression m) (exactBucklingPhi (m .lh) (m .height))
-Holds m f (strength bucklingB) =
-    f .N ≼ exactBucklingCapacity (exactNRof Compression m) (exactBucklingPhi (m .lb) (m .width))
+Holds m f (strength (buckling across)) =
+    f .N ≼ exactBucklingCapacity (exactNRof Compression m) (exactBucklingPhi (strutOf m across))
 Holds m f (strength compressionBending) =
     ExactCompressionBending (f .N) (f .M)
     (exactNRof Compression m)
-    (exactEulerCapacity (exactNRof Compression m) (m .lh) (m .height))
+    (exactEulerCapacity (exactNRof Compression m) (strutOf m acrossHeight))
     (exactMRof m)
 Holds m f (strength tensionBending) =
     ExactTensionBending (f .N) (f .M) (exactNRof Tension m) (exactMRof m)

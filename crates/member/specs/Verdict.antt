@@ -17,8 +17,8 @@ use Rattle.cells.specs.Greatest.{greaterBy, greatest}
 use Rattle.cells.specs.Refusal.{Result, gives, refuses, refusedBy}
 use Rattle.cells.specs.declared.row.Cell.{Cell}
 use Rattle.member.specs.Acceptance.{accept}
-use Rattle.member.specs.Checks.{YesNo, Strength, yesNo, strength, number, yesNoOf, strengthOf, omitted, layout, slendernessH, slendernessB, jointLength, netTension, sidePieces, bending, shear, bucklingH, bucklingB, compressionBending, tensionBending}
-use Rattle.member.specs.Member.{limitOf, countOf, NRof, MRof}
+use Rattle.member.specs.Checks.{YesNo, Strength, yesNo, strength, number, yesNoOf, strengthOf, omitted, layout, slenderness, jointLength, netTension, sidePieces, bending, shear, buckling, compressionBending, tensionBending}
+use Rattle.member.specs.Member.{acrossHeight, strutOf, limitOf, countOf, NRof, MRof}
 use Rattle.member.specs.declared.kind.Kind.{Kind}
 use Rattle.member.specs.declared.member.Member.{Member}
 use Rattle.member.specs.declared.verdict.Answer.{Answer}
@@ -29,8 +29,7 @@ use Rattle.member.specs.declared.verdict.Verdict.{Verdict}
 -- a yes-or-no check as the rules round it
 abbrev pub holds : Member → YesNo → Bool
 holds m layout = layoutHolds (m .height) (m .joint)
-holds m slendernessH = slendernessHolds (limitOf m) (m .lh) (m .height)
-holds m slendernessB = slendernessHolds (limitOf m) (m .lb) (m .width)
+holds m (slenderness across) = slendernessHolds (limitOf m) (strutOf m across)
 holds m jointLength = jointLengthHolds (m .joint) (countOf m)
 
 -- the utilisation of a strength check
@@ -43,14 +42,12 @@ utilisationOf m netTension =
 utilisationOf m sidePieces = utilisation (m .force) (sidePieceCapacity (m .height) (m .joint) (designStrength Tension (m .material)))
 utilisationOf m bending = utilisation (m .moment) (MRof m)
 utilisationOf m shear = utilisation (m .shear) (shearCapacity (m .width) (m .height) (designStrength Shear (m .material)))
-utilisationOf m bucklingH =
-    utilisation (m .force) (bucklingCapacity (NRof Compression m) (bucklingPhi (m .lh) (m .height)))
-utilisationOf m bucklingB =
-    utilisation (m .force) (bucklingCapacity (NRof Compression m) (bucklingPhi (m .lb) (m .width)))
+utilisationOf m (buckling across) =
+    utilisation (m .force) (bucklingCapacity (NRof Compression m) (bucklingPhi (strutOf m across)))
 utilisationOf m compressionBending =
     axialWithMoment (m .force) (m .moment)
     (NRof Compression m)
-    (eulerCapacity (NRof Compression m) (m .lh) (m .height))
+    (eulerCapacity (NRof Compression m) (strutOf m acrossHeight))
     (MRof m)
 utilisationOf m tensionBending =
     tensionWithMoment (m .force) (m .moment) (NRof Tension m) (MRof m)
@@ -83,8 +80,7 @@ byStrength g count = record { passes = leb (g .utilisation) 1000000; check = g .
 -- the count in a verdict that fails on a yes-or-no check: 0, for check 4 the count
 abbrev pub countOnFail : Member → YesNo → ℕ
 countOnFail m layout = 0
-countOnFail m slendernessH = 0
-countOnFail m slendernessB = 0
+countOnFail m (slenderness across) = 0
 countOnFail m jointLength = countOf m
 
 -- the verdict that fails on a yes-or-no check: utilisation 0

@@ -1,5 +1,5 @@
 // Check a row.
-use crate::kinds::judge;
+use crate::judge::judge;
 use acceptance::accept::accept_row;
 use cells::row::Row;
 use member::acceptance::Accepted;

@@ -1,3 +1,3 @@
 // The row check: acceptance, then judgement by the checks of the kind.
 pub mod check;
-mod kinds;
+mod judge;

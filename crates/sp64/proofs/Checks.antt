@@ -3,7 +3,6 @@
 -- the whole number checked. The laws of check 4 and of the count are in JointLaws, those of checks 1 to 3, which round nothing, in YesNoChecks.
 -- Assumes nothing.
 use Prim.Native.Nat.{ℕ, _*_, _≤_, _<_}
-use native.Mathlib.Nat.{mul-le-mul, mul-le-mul-right, le-trans}
 use native.Mathlib.Omega.{arith}
 use lib.Dec.{lit<, lit≤}
 use Rattle.rounding.specs.Fraction.{Fraction, RoundsUpTo}
@@ -13,19 +12,14 @@ use Rattle.rounding.proofs.Soundness.{SoundAgainst, sound}
 use Rattle.sp64.specs.declared.tables.Stress.the-variants.{Compression, Tension, Shear}
 use Rattle.sp64.specs.declared.strength.Material.{Material}
 use Rattle.sp64.specs.declared.joint.Joint.{Joint}
-use Rattle.sp64.specs.Ranges.{InLimit, InLength, InSide}
+use Rattle.sp64.specs.declared.strut.Strut.{Strut}
 use Rattle.sp64.specs.Strength.{MaterialRanges, designStrength, exactStrength}
-use Rattle.sp64.specs.Slenderness.{Slenderness}
 use Rattle.sp64.specs.Joint.{JointRanges, Layout}
 use Rattle.sp64.specs.Capacity.{Section, netTensionCapacity, exactNetTensionCapacity, sidePieceCapacity, exactSidePieceCapacity, shearCapacity, exactShearCapacity, NR, exactNR, MR, exactMR}
 use Rattle.sp64.specs.Buckling.{bucklingPhi, exactBucklingPhi, bucklingCapacity, exactBucklingCapacity, eulerCapacity, exactEulerCapacity}
-use Rattle.sp64.proofs.PhiLaws.{slender-near, phi-near}
+use Rattle.sp64.proofs.PhiLaws.{Steady, slender-near, phi-near}
 use Rattle.sp64.proofs.CapacityLaws.{net-height-in, tension-near, whole-tension-near, compression-near, bending-near, shear-near, PhiLoss, buckling-near}
 use Rattle.sp64.proofs.CombinedLaws.{Losses, CompressionBendingSound, compression-bending-from, TensionBendingSound, tension-bending-from}
-
--- within any limit of Table 16 the slenderness is at most 200
-pub slenderness-most : (limit L s : ℕ) → InLimit limit → Slenderness limit L s → Slenderness 200 L s
-slenderness-most limit L s most h = le-trans h (mul-le-mul-right (s * s) (mul-le-mul (most .high) (most .high)))
 
 -- what rounding takes off NR × φ and NR × φ' with the φ of specs/Buckling
 pub phi-loss : PhiLoss 75000 75000 75001 100244
@@ -67,10 +61,9 @@ module _ {mat : Material} (known : MaterialRanges mat) {b h : ℕ} (section : Se
     buckling-sound-for {G = G} k₀ loss some few phi =
         sound (loss .low) some up (near-wide 1000 k₀ (lit< tt) (omega arith) (buckling-near known section loss phi))
 
-    -- checks 9 and 10: L, s are Lh, h and Lb, b
-    pub buckling-sound : {limit L s : ℕ} → InLength L → InSide s → InLimit limit → Slenderness limit L s → SoundAgainst 1003 force N (bucklingCapacity (NR Compression b h mat) (bucklingPhi L s)) (exactBucklingCapacity (exactNR Compression b h mat) (exactBucklingPhi L s))
-    buckling-sound {limit} {L} {s} length side most slender =
-        buckling-sound-for 1003 phi-loss (lit< tt) (lit≤ tt) (phi-near length side (slenderness-most limit L s most slender))
+    -- checks 9 and 10
+    pub buckling-sound : {limit : ℕ} {strut : Strut} → Steady limit strut → SoundAgainst 1003 force N (bucklingCapacity (NR Compression b h mat) (bucklingPhi strut)) (exactBucklingCapacity (exactNR Compression b h mat) (exactBucklingPhi strut))
+    buckling-sound steady = buckling-sound-for 1003 phi-loss (lit< tt) (lit≤ tt) (phi-near steady)
 
   module _ {N M : ℕ} (pos-N : 0 < N) (pos-M : 0 < M) where
     -- check 11, kind 4, for any φ'
@@ -87,10 +80,8 @@ module _ {mat : Material} (known : MaterialRanges mat) {b h : ℕ} (section : Se
         pos-M
 
     -- check 11, kind 4
-    pub compression-bending-sound : {limit L : ℕ} → InLength L → InLimit limit → Slenderness limit L h → CompressionBendingSound 1003 N M (NR Compression b h mat) (eulerCapacity (NR Compression b h mat) L h) (MR b h mat) (exactNR Compression b h mat) (exactEulerCapacity (exactNR Compression b h mat) L h) (exactMR b h mat)
-    compression-bending-sound {limit} {L} length most slender =
-        compression-bending-sound-for 1003 phi-loss (omega arith)
-        (slender-near length (in-wide 20 2500 (lit≤ tt) (lit≤ tt) (section .height)) (slenderness-most limit L h most slender))
+    pub compression-bending-sound : {limit : ℕ} {strut : Strut} → Steady limit strut → CompressionBendingSound 1003 N M (NR Compression b h mat) (eulerCapacity (NR Compression b h mat) strut) (MR b h mat) (exactNR Compression b h mat) (exactEulerCapacity (exactNR Compression b h mat) strut) (exactMR b h mat)
+    compression-bending-sound steady = compression-bending-sound-for 1003 phi-loss (omega arith) (slender-near steady)
 
   -- check 11, kind 5
   pub tension-bending-sound : (N M : ℕ) → TensionBendingSound 1003 N M (NR Tension b h mat) (MR b h mat) (exactNR Tension b h mat) (exactMR b h mat)

@@ -15,18 +15,19 @@ use Rattle.sp64.specs.declared.tables.Stress.{Stress}
 use Rattle.sp64.specs.declared.tables.Stress.the-variants.{Bending, Compression, Tension, Shear}
 use Rattle.sp64.specs.declared.strength.Material.{Material}
 use Rattle.sp64.specs.declared.joint.Joint.{Joint}
-use Rattle.sp64.specs.Ranges.{InLimit, InHeight, InLength, InSide, InWidth}
+use Rattle.sp64.specs.declared.strut.Strut.{Strut}
+use Rattle.sp64.specs.Ranges.{InHeight, InWidth}
 use Rattle.sp64.specs.Strength.{MaterialRanges, exactStrength}
-use Rattle.sp64.specs.Slenderness.{Slenderness}
+use Rattle.sp64.specs.Slenderness.{L², s²}
 use Rattle.sp64.specs.Joint.{JointRanges, Layout, coreCrushing, sideCrushing, dowelBending, exactTerm}
 use Rattle.sp64.specs.Capacity.{Section, exactNetTensionCapacity, exactSidePieceCapacity, exactShearCapacity, exactNR, exactMR}
 use Rattle.sp64.specs.Buckling.{stocky, exactSlenderPhi, exactBucklingPhi, exactBucklingCapacity, exactEulerCapacity}
 use Rattle.sp64.specs.Combined.{exactAxialShare, exactSecondOrderMoment}
 use Rattle.sp64.proofs.StrengthLaws.{strength-near}
 use Rattle.sp64.proofs.JointLaws.{core-crushing-near, side-crushing-near, dowel-bending-near}
-use Rattle.sp64.proofs.PhiLaws.{slender-near, phi-near}
+use Rattle.sp64.proofs.PhiLaws.{Steady, slender-near, phi-near}
 use Rattle.sp64.proofs.CapacityLaws.{net-height-in, tension-near, whole-tension-near, compression-near, bending-near, shear-near, buckling-near}
-use Rattle.sp64.proofs.Checks.{slenderness-most, phi-loss}
+use Rattle.sp64.proofs.Checks.{phi-loss}
 
 -- a value above zero, with a denominator above zero: it may stand in a numerator and in a denominator
 pub record Proper (x : Fraction) : Type 0 where
@@ -45,16 +46,16 @@ pub net-height-kept : {h : ℕ} {j : Joint} → InHeight h → JointRanges j →
 net-height-kept height jr layout = omega (arith, net-height-in height jr layout .low)
 
 -- the first form of φ is not cut off up to the turn at 70
-pub stocky-phi-kept : (L s : ℕ) → stocky L s ≡ true → whole (960 * (L * L)) ⊘ whole (s * s) ≼ whole 1000000
-stocky-phi-kept L s e = let h : 12 * (L * L) ≤ 4900 * (s * s) = leb-true _ _ e in omega arith
+pub stocky-phi-kept : (strut : Strut) → stocky strut ≡ true → whole (960 * L² strut) ⊘ whole (s² strut) ≼ whole 1000000
+stocky-phi-kept strut e = let h : 12 * L² strut ≤ 4900 * s² strut = leb-true _ _ e in omega arith
 
 -- φ and φ', where the slenderness is within a limit of Table 16
-module _ {limit L s : ℕ} (length : InLength L) (side : InSide s) (most : InLimit limit) (slender : Slenderness limit L s) where
-  pub phi-proper : Proper (exactBucklingPhi L s)
-  phi-proper = proper (lit< tt) (phi-near length side (slenderness-most limit L s most slender))
+module _ {limit : ℕ} {strut : Strut} (steady : Steady limit strut) where
+  pub phi-proper : Proper (exactBucklingPhi strut)
+  phi-proper = proper (lit< tt) (phi-near steady)
 
-  pub slender-phi-proper : Proper (exactSlenderPhi L s)
-  slender-phi-proper = proper (lit< tt) (slender-near length side (slenderness-most limit L s most slender))
+  pub slender-phi-proper : Proper (exactSlenderPhi strut)
+  slender-phi-proper = proper (lit< tt) (slender-near steady)
 
 -- a dowel's terms
 module _ {b : ℕ} {j : Joint} {mat : Material} (width : InWidth b) (jr : JointRanges j) (known : MaterialRanges mat) where
@@ -99,16 +100,12 @@ module _ {mat : Material} (known : MaterialRanges mat) where
     shear-proper = proper (lit< tt) (shear-near known section)
 
     -- NR × φ of checks 9 and 10, and NR × φ' of check 11
-    module _ {limit L s : ℕ} (length : InLength L) (side : InSide s) (most : InLimit limit) (slender : Slenderness limit L s) where
-      pub buckling-proper : Proper (exactBucklingCapacity (exactNR Compression b h mat) (exactBucklingPhi L s))
-      buckling-proper =
-          proper (lit< tt)
-          (buckling-near known section phi-loss (phi-near length side (slenderness-most limit L s most slender)))
+    module _ {limit : ℕ} {strut : Strut} (steady : Steady limit strut) where
+      pub buckling-proper : Proper (exactBucklingCapacity (exactNR Compression b h mat) (exactBucklingPhi strut))
+      buckling-proper = proper (lit< tt) (buckling-near known section phi-loss (phi-near steady))
 
-      pub euler-proper : Proper (exactEulerCapacity (exactNR Compression b h mat) L s)
-      euler-proper =
-          proper (lit< tt)
-          (buckling-near known section phi-loss (slender-near length side (slenderness-most limit L s most slender)))
+      pub euler-proper : Proper (exactEulerCapacity (exactNR Compression b h mat) strut)
+      euler-proper = proper (lit< tt) (buckling-near known section phi-loss (slender-near steady))
 
 -- p and Md: with a capacity C as above p has a denominator, and where p is below one, 1,000,000 − p is not cut off, so Md has one
 module _ (N M C : Fraction) (real-N : 0 < N .den) (real-M : 0 < M .den) (capacity : Proper C) where

@@ -1,13 +1,28 @@
--- Slenderness, checks 2 and 3. Nothing in it is rounded, so the rule and the unrounded rule are one.
+-- A member as a strut, and its slenderness, checks 2 and 3. Nothing in it is rounded, so the rule and the unrounded rule are one.
 -- Assumes nothing.
 use Prim.Native.Nat.{ℕ, _*_, _≤_}
 use mathlib.Core.Bool.{Bool}
 use lib.Dec.{leb}
+use Rattle.sp64.specs.declared.strut.Strut.{Strut}
+use Rattle.sp64.specs.Ranges.{InLength, InSide}
 
--- 12 × L² ≤ limit² × s², for the length L and the side s across which the member buckles
-abbrev pub Slenderness : ℕ → ℕ → ℕ → Type 0
-Slenderness limit L s = 12 * (L * L) ≤ limit * limit * (s * s)
+-- the square of the effective length L
+abbrev pub L² : Strut → ℕ
+L² strut = strut .length * strut .length
+
+-- the square of the side s across which the member buckles
+abbrev pub s² : Strut → ℕ
+s² strut = strut .side * strut .side
+
+-- 12 × L² ≤ limit² × s²
+abbrev pub Slenderness : ℕ → Strut → Type 0
+Slenderness limit strut = 12 * L² strut ≤ limit * limit * s² strut
 
 -- the same as a test
-abbrev pub slendernessHolds : ℕ → ℕ → ℕ → Bool
-slendernessHolds limit L s = leb (12 * (L * L)) (limit * limit * (s * s))
+abbrev pub slendernessHolds : ℕ → Strut → Bool
+slendernessHolds limit strut = leb (12 * L² strut) (limit * limit * s² strut)
+
+-- the ranges of L, cells 11 and 12, and of s, cells 7 and 6
+pub record StrutRanges (strut : Strut) : Type 0 where
+  pub length : InLength (strut .length)
+  pub side : InSide (strut .side)

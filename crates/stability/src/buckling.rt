@@ -1,27 +1,29 @@
-// Buckling, checks 9 and 10.
+// Buckling, checks 9 and 10, and the capacity in p of check 11.
+use sp64::strut::Strut;
 ghost use Rattle.rounding.specs.Range.{Value};
-ghost use Rattle.sp64.specs.Ranges.{InBucklingCapacity, InLength, InNR, InPhi, InSide, InSlenderPhi};
+ghost use Rattle.sp64.specs.Ranges.{InBucklingCapacity, InNR, InPhi, InSlenderPhi};
+ghost use Rattle.sp64.specs.Slenderness.{StrutRanges};
 ghost use Rattle.sp64.specs.Buckling.{slenderPhi, bucklingPhi, bucklingCapacity, eulerCapacity};
 
 // The second form of φ, in millionths.
-fn slender_phi(l: u64, s: u64) -> u64
-    requires { ⌜ InLength l × InSide s ⌝ }
-    ensures { λ r. ⌜ Value InSlenderPhi (slenderPhi l s) r ⌝ }
+fn slender_phi(strut: Strut) -> u64
+    requires { ⌜ StrutRanges strut ⌝ }
+    ensures { λ r. ⌜ Value InSlenderPhi (slenderPhi strut) r ⌝ }
 {
-    250_000_000 * (s * s) / (l * l)
+    250_000_000 * (strut.side * strut.side) / (strut.length * strut.length)
 }
 
 // φ of checks 9 and 10, in millionths.
-pub fn buckling_phi(l: u64, s: u64) -> u64
-    requires { ⌜ InLength l × InSide s ⌝ }
-    ensures { λ r. ⌜ Value InPhi (bucklingPhi l s) r ⌝ }
+pub fn buckling_phi(strut: Strut) -> u64
+    requires { ⌜ StrutRanges strut ⌝ }
+    ensures { λ r. ⌜ Value InPhi (bucklingPhi strut) r ⌝ }
 {
-    let l2 = l * l;
-    let s2 = s * s;
+    let l2 = strut.length * strut.length;
+    let s2 = strut.side * strut.side;
     if 12 * l2 <= 4900 * s2 {
         1_000_000 - rounding::round_up(960 * l2, s2)
     } else {
-        slender_phi(l, s)
+        slender_phi(strut)
     }
 }
 
@@ -34,9 +36,9 @@ pub fn buckling_capacity(nr: u64, phi: u64) -> u64
 }
 
 // NR × φ' of check 11, in N.
-pub fn euler_capacity(nr: u64, l: u64, h: u64) -> u64
-    requires { ⌜ InNR nr × InLength l × InSide h ⌝ }
-    ensures { λ r. ⌜ Value InBucklingCapacity (eulerCapacity nr l h) r ⌝ }
+pub fn euler_capacity(nr: u64, strut: Strut) -> u64
+    requires { ⌜ InNR nr × StrutRanges strut ⌝ }
+    ensures { λ r. ⌜ Value InBucklingCapacity (eulerCapacity nr strut) r ⌝ }
 {
-    buckling_capacity(nr, slender_phi(l, h))
+    buckling_capacity(nr, slender_phi(strut))
 }

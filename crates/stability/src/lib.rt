@@ -2,3 +2,4 @@
 pub mod buckling;
 pub mod combined;
 pub mod slenderness;
+pub mod strut;

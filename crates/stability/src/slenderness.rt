@@ -1,12 +1,13 @@
 // Slenderness, checks 2 and 3.
+use sp64::strut::Strut;
 ghost use mathlib.Core.Path.{_≡_};
-ghost use Rattle.sp64.specs.Ranges.{InLength, InLimit, InSide};
-ghost use Rattle.sp64.specs.Slenderness.{slendernessHolds};
+ghost use Rattle.sp64.specs.Ranges.{InLimit};
+ghost use Rattle.sp64.specs.Slenderness.{StrutRanges, slendernessHolds};
 
-// Whether a member of effective length l, buckling across the side s, is within a limit of Table 16.
-pub fn slenderness_holds(limit: u64, l: u64, s: u64) -> bool
-    requires { ⌜ InLimit limit × InLength l × InSide s ⌝ }
-    ensures { λ r. ⌜ r ≡ slendernessHolds limit l s ⌝ }
+// Whether a strut is within a limit of Table 16.
+pub fn slenderness_holds(limit: u64, strut: Strut) -> bool
+    requires { ⌜ InLimit limit × StrutRanges strut ⌝ }
+    ensures { λ r. ⌜ r ≡ slendernessHolds limit strut ⌝ }
 {
-    12 * (l * l) <= limit * limit * (s * s)
+    12 * (strut.length * strut.length) <= limit * limit * (strut.side * strut.side)
 }

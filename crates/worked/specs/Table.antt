@@ -4,10 +4,10 @@ use mathlib.Core.List.{List, [], _∷_}
 use Rattle.rounding.specs.Fraction.{fraction, whole, _⊕_}
 use Rattle.sp64.specs.declared.tables.Stress.the-variants.{Bending, Compression, Tension}
 use Rattle.member.specs.Checks.{shear}
-use Rattle.member.specs.Member.{countOf, NRof, exactNRof, MRof, exactMRof}
+use Rattle.member.specs.Member.{acrossHeight, acrossWidth, countOf, NRof, exactNRof, MRof, exactMRof}
 use Rattle.worked.specs.Cases.{Case, verdict, figure, exact, packs, pass, fail}
 use Rattle.member.specs.WorkedRows.{rowA, rowB, rowC, rowD, rowE, rowF, rowG, rowH}
-use Rattle.worked.specs.Values.{strengthIn, exactStrengthIn, phiAcrossHeight, exactPhiAcrossHeight, phiAcrossWidth, exactPhiAcrossWidth, dowelTerm, dowelResistance, exactDowelResistance, columnsOf, utilisationIn, bendingRatio, bucklingRatio, netTensionRatio}
+use Rattle.worked.specs.Values.{strengthIn, exactStrengthIn, phi, exactPhi, dowelTerm, dowelResistance, exactDowelResistance, columnsOf, utilisationIn, bendingRatio, bucklingRatio, netTensionRatio}
 
 -- rows A to H
 unfoldable pub table : List Case
@@ -26,18 +26,18 @@ table =
     exact rowB (exactStrengthIn Compression) (whole 12879) ∷
     figure rowB (NRof Compression) 257580 ∷
     exact rowB (exactNRof Compression) (whole 257580) ∷
-    figure rowB phiAcrossHeight 784000 ∷
-    exact rowB exactPhiAcrossHeight (whole 784000) ∷
-    figure rowB phiAcrossWidth 616000 ∷
-    exact rowB exactPhiAcrossWidth (whole 616000) ∷
+    figure rowB (phi acrossHeight) 784000 ∷
+    exact rowB (exactPhi acrossHeight) (whole 784000) ∷
+    figure rowB (phi acrossWidth) 616000 ∷
+    exact rowB (exactPhi acrossWidth) (whole 616000) ∷
     exact rowB bucklingRatio (fraction 312500 991683) ∷
     -- C and D: φ rises past slenderness 70; each is rounded down, by the part that follows the whole number
     verdict rowC (pass 10 319120 0) ∷
-    figure rowC phiAcrossWidth 608281 ∷
-    exact rowC exactPhiAcrossWidth (whole 608281 ⊕ fraction 3 5) ∷
+    figure rowC (phi acrossWidth) 608281 ∷
+    exact rowC (exactPhi acrossWidth) (whole 608281 ⊕ fraction 3 5) ∷
     verdict rowD (pass 10 317141 0) ∷
-    figure rowD phiAcrossWidth 612078 ∷
-    exact rowD exactPhiAcrossWidth (whole 612078 ⊕ fraction 3521602 4084441) ∷
+    figure rowD (phi acrossWidth) 612078 ∷
+    exact rowD (exactPhi acrossWidth) (whole 612078 ⊕ fraction 3521602 4084441) ∷
     -- E: checks 5 and 6 are equal, and the lower number is named
     verdict rowE (pass 5 342176 25) ∷
     exact rowE (exactStrengthIn Tension) (whole 17820) ∷

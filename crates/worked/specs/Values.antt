@@ -9,7 +9,7 @@ use Rattle.sp64.specs.Strength.{designStrength, exactStrength}
 use Rattle.sp64.specs.declared.tables.Stress.{Stress}
 use Rattle.sp64.specs.declared.tables.Stress.the-variants.{Compression, Tension}
 use Rattle.member.specs.Checks.{Strength}
-use Rattle.member.specs.Member.{countOf, exactNRof, exactMRof}
+use Rattle.member.specs.Member.{Across, acrossWidth, strutOf, countOf, exactNRof, exactMRof}
 use Rattle.member.specs.Unrounded.{forcesOf}
 use Rattle.member.specs.Verdict.{utilisationOf}
 use Rattle.member.specs.declared.member.Member.{Member}
@@ -22,21 +22,13 @@ strengthIn stress m = designStrength stress (m .material)
 abbrev pub exactStrengthIn : Stress → Member → Fraction
 exactStrengthIn stress m = exactStrength stress (m .material)
 
--- φ of check 9, across the height
-abbrev pub phiAcrossHeight : Member → ℕ
-phiAcrossHeight m = bucklingPhi (m .lh) (m .height)
+-- φ of checks 9 and 10
+abbrev pub phi : Across → Member → ℕ
+phi across m = bucklingPhi (strutOf m across)
 
--- φ of check 9, unrounded
-abbrev pub exactPhiAcrossHeight : Member → Fraction
-exactPhiAcrossHeight m = exactBucklingPhi (m .lh) (m .height)
-
--- φ of check 10, across the width
-abbrev pub phiAcrossWidth : Member → ℕ
-phiAcrossWidth m = bucklingPhi (m .lb) (m .width)
-
--- φ of check 10, unrounded
-abbrev pub exactPhiAcrossWidth : Member → Fraction
-exactPhiAcrossWidth m = exactBucklingPhi (m .lb) (m .width)
+-- φ, unrounded
+abbrev pub exactPhi : Across → Member → Fraction
+exactPhi across m = exactBucklingPhi (strutOf m across)
 
 -- g, the least of a dowel's three terms; nothing in it is rounded
 abbrev pub dowelTerm : Member → ℕ
@@ -64,7 +56,7 @@ bendingRatio m = forcesOf m .M ⊘ exactMRof m
 
 -- check 10, unrounded: the axial force to its capacity
 abbrev pub bucklingRatio : Member → Fraction
-bucklingRatio m = forcesOf m .N ⊘ exactBucklingCapacity (exactNRof Compression m) (exactPhiAcrossWidth m)
+bucklingRatio m = forcesOf m .N ⊘ exactBucklingCapacity (exactNRof Compression m) (exactPhi acrossWidth m)
 
 -- check 5 with a joint, unrounded: the axial force to its capacity
 abbrev pub netTensionRatio : Member → Fraction

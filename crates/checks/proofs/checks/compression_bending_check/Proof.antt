@@ -7,9 +7,6 @@ use Rattle.checks.proofs.checks.compression_bending_check.Tie as tie
 euler-capacity-requires : tie.Need-euler-capacity-requires
 euler-capacity-requires c κs = search needs
 
-moment-resistance-requires : tie.Need-moment-resistance-requires
-moment-resistance-requires c κs = search needs
-
 compression-bending-requires : tie.Need-compression-bending-requires
 compression-bending-requires c κs = search needs
 
@@ -22,9 +19,4 @@ returns c = cc
 pub compression-bending-check-spec : {M : Type 1} → statement M
 compression-bending-check-spec =
     tie.close
-    (tie.spec
-    euler-capacity-requires
-    moment-resistance-requires
-    compression-bending-requires
-    used-at-requires
-    returns)
+    (tie.spec euler-capacity-requires compression-bending-requires used-at-requires returns)

@@ -12,42 +12,42 @@ use Rattle.stability.proofs.buckling.buckling_phi.Statement.{statement}
 use Rattle.stability.proofs.buckling.buckling_phi.Tie as tie
 
 mul-l2 : tie.Need-mul-l2
-mul-l2 c = omega (arith, in-mul (c .pre .0) (c .pre .0))
+mul-l2 c = omega (arith, in-mul (c .before .pre .length) (c .before .pre .length))
 
 mul-s2 : tie.Need-mul-s2
-mul-s2 c = omega (arith, in-mul (c .pre .1) (c .pre .1))
+mul-s2 c = omega (arith, in-mul (c .before .before .pre .side) (c .before .before .pre .side))
 
 mul-if1 : tie.Need-mul-if1
-mul-if1 c = omega (arith, in-mul (c .pre .0) (c .pre .0))
+mul-if1 c = omega (arith, in-mul (c .before .before .pre .length) (c .before .before .pre .length))
 
 mul-if1-2 : tie.Need-mul-if1-2
-mul-if1-2 c = omega (arith, in-mul (c .pre .1) (c .pre .1))
+mul-if1-2 c = omega (arith, in-mul (c .before .before .pre .side) (c .before .before .pre .side))
 
 mul-round-up : tie.Need-mul-round-up
-mul-round-up c = omega (arith, in-mul (c .before .pre .0) (c .before .pre .0))
+mul-round-up c = omega (arith, in-mul (c .before .before .before .pre .length) (c .before .before .before .pre .length))
 
 round-up-requires : tie.Need-round-up-requires
 round-up-requires c κs =
-    let known = c .before .pre in
-    omega (arith, in-mul (known .0) (known .0), in-mul (known .1) (known .1))
+    let known = c .before .before .before .pre in
+    omega (arith, in-mul (known .length) (known .length), in-mul (known .side) (known .side))
 
 sub-result : tie.Need-sub-result
 sub-result c =
-    let s2 = in-mul (c .before .before .pre .1) (c .before .before .pre .1) in
-    omega (arith, stocky-off (c .before .before .args .l) (c .before .before .args .s) (omega arith) (c .before .if1 .taken))
+    let s2 = in-mul (c .before .before .before .before .pre .side) (c .before .before .before .before .pre .side) in
+    omega (arith, stocky-off (c .before .before .before .before .args .strut) (omega arith) (c .before .if1 .taken))
 
 slender-phi-requires : tie.Need-slender-phi-requires
 slender-phi-requires c κs = search needs
 
 returns : tie.Need-returns
 returns c =
-    let e : 1000000 - c .round-up .result ≡ bucklingPhi (c .before .before .args .l) (c .before .before .args .s) = simp (le-leb _ _ (c .before .if1 .taken), c .round-up .ensures) in
-    record { exact = e; range = rw e (phi-in (c .before .before .pre .0) (c .before .before .pre .1)) }
+    let e : 1000000 - c .round-up .result ≡ bucklingPhi (c .before .before .before .before .args .strut) = simp (le-leb _ _ (c .before .if1 .taken), c .round-up .ensures) in
+    record { exact = e; range = rw e (phi-in (c .before .before .before .before .pre)) }
 
 returns-2 : tie.Need-returns-2
 returns-2 c =
-    let e : c .slender-phi .result ≡ bucklingPhi (c .before .before .args .l) (c .before .before .args .s) = simp (lt-leb _ _ (c .before .if1 .left)) (c .slender-phi .ensures .exact) in
-    record { exact = e; range = rw e (phi-in (c .before .before .pre .0) (c .before .before .pre .1)) }
+    let e : c .slender-phi .result ≡ bucklingPhi (c .before .before .before .before .args .strut) = simp (lt-leb _ _ (c .before .if1 .left)) (c .slender-phi .ensures .exact) in
+    record { exact = e; range = rw e (phi-in (c .before .before .before .before .pre)) }
 
 pub buckling-phi-spec : {M : Type 1} → statement M
 buckling-phi-spec =

@@ -1,0 +1,247 @@
+-- `governing_check` meets its contract: in each kind the code finds the row's strength checks, and of these the one that governs.
+-- Assumes nothing.
+use mathlib.Core.Path.{_≡_, refl, sym, ap, subst, _∙_}
+use Rattle.cells.specs.Greatest.{greatest}
+use Rattle.member.specs.Checks.{strengthOf}
+use Rattle.member.specs.Member.{acrossHeight, acrossWidth}
+use Rattle.member.specs.Ranges.{RangesOf}
+use Rattle.member.specs.Verdict.{governing}
+use Rattle.member.specs.declared.kind.Kind.{Kind}
+use Rattle.member.specs.declared.member.Member.{Member}
+use Rattle.member.proofs.Reliance.{struts-in}
+use Rattle.rowcheck.proofs.JudgeLaws.{only, governs, bending-found, buckling-found, compression-bending-found, tension-bending-found, strut-in}
+use borrow.Author.Needs.{needs}
+use Rattle.rowcheck.proofs.judge.governing_check.Statement.{statement}
+use Rattle.rowcheck.proofs.judge.governing_check.Tie as tie
+
+-- a member that the match finds to be of a kind
+module _ (m : Member) {kind : Kind} (is : m .kind ≡ kind) where
+  ranges : RangesOf (m .kind) m → RangesOf kind m
+  ranges = subst (λ (k : Kind). RangesOf k m) is
+
+  agrees : governing m (strengthOf kind) ≡ governing m (strengthOf (m .kind))
+  agrees = ap (λ (k : Kind). governing m (strengthOf k)) (sym is)
+
+enum-told : tie.Need-enum-told
+enum-told c = search needs
+
+tension-resistance-requires : tie.Need-tension-resistance-requires
+tension-resistance-requires c κs = search needs
+
+against-requires : tie.Need-against-requires
+against-requires c κs = search needs
+
+enum-told-2 : tie.Need-enum-told-2
+enum-told-2 c = search needs
+
+moment-resistance-requires : tie.Need-moment-resistance-requires
+moment-resistance-requires c κs = search needs
+
+against-requires-2 : tie.Need-against-requires-2
+against-requires-2 c κs = search needs
+
+shear-check-requires : tie.Need-shear-check-requires
+shear-check-requires c κs = search needs
+
+greater-requires : tie.Need-greater-requires
+greater-requires c κs = search needs
+
+enum-told-3 : tie.Need-enum-told-3
+enum-told-3 c = search needs
+
+compression-resistance-requires : tie.Need-compression-resistance-requires
+compression-resistance-requires c κs = search needs
+
+strut-requires : tie.Need-strut-requires
+strut-requires c κs = search needs
+
+strut-requires-2 : tie.Need-strut-requires-2
+strut-requires-2 c κs = search needs
+
+buckling-check-requires : tie.Need-buckling-check-requires
+buckling-check-requires c κs =
+    let start = c .before .before .before in
+    let known = ranges _ (start .enum-told3 .given .1) (start .before .before .pre .0) in
+    (c .before .before .compression-resistance .ensures .range, strut-in (c .before .strut .ensures) (struts-in _ known refl acrossHeight))
+
+buckling-check-requires-2 : tie.Need-buckling-check-requires-2
+buckling-check-requires-2 c κs =
+    let start = c .before .before .before .before in
+    let known = ranges _ (start .enum-told3 .given .1) (start .before .before .pre .0) in
+    (c .before .before .before .compression-resistance .ensures .range, strut-in (c .before .strut2 .ensures) (struts-in _ known refl acrossWidth))
+
+greater-requires-2 : tie.Need-greater-requires-2
+greater-requires-2 c κs = search needs
+
+enum-told-4 : tie.Need-enum-told-4
+enum-told-4 c = search needs
+
+compression-resistance-requires-2 : tie.Need-compression-resistance-requires-2
+compression-resistance-requires-2 c κs = search needs
+
+moment-resistance-requires-2 : tie.Need-moment-resistance-requires-2
+moment-resistance-requires-2 c κs = search needs
+
+strut-requires-3 : tie.Need-strut-requires-3
+strut-requires-3 c κs = search needs
+
+strut-requires-4 : tie.Need-strut-requires-4
+strut-requires-4 c κs = search needs
+
+compression-bending-check-requires : tie.Need-compression-bending-check-requires
+compression-bending-check-requires c κs =
+    let start = c .before .before .before .before in
+    let known = ranges _ (start .enum-told4 .given .1) (start .before .before .pre .0) in (
+      known .force refl,
+      known .moment refl,
+      c .before .before .before .compression-resistance2 .ensures .range,
+      c .before .before .moment-resistance2 .ensures .range,
+      strut-in (c .before .strut3 .ensures) (struts-in _ known refl acrossHeight),
+    )
+
+buckling-check-requires-3 : tie.Need-buckling-check-requires-3
+buckling-check-requires-3 c κs =
+    let start = c .before .before .before .before .before in
+    let known = ranges _ (start .enum-told4 .given .1) (start .before .before .pre .0) in
+    (c .before .before .before .before .compression-resistance2 .ensures .range, strut-in (c .before .before .strut3 .ensures) (struts-in _ known refl acrossHeight))
+
+buckling-check-requires-4 : tie.Need-buckling-check-requires-4
+buckling-check-requires-4 c κs =
+    let start = c .before .before .before .before .before .before in
+    let known = ranges _ (start .enum-told4 .given .1) (start .before .before .pre .0) in
+    (c .before .before .before .before .before .compression-resistance2 .ensures .range, strut-in (c .before .before .strut4 .ensures) (struts-in _ known refl acrossWidth))
+
+greater-requires-3 : tie.Need-greater-requires-3
+greater-requires-3 c κs = search needs
+
+greater-requires-4 : tie.Need-greater-requires-4
+greater-requires-4 c κs = search needs
+
+shear-check-requires-2 : tie.Need-shear-check-requires-2
+shear-check-requires-2 c κs =
+    let known = c .before .before .before .before .before .before .before .before .before .before .before .pre .0 in
+    (known .sized .section, known .sized .material)
+
+greater-requires-5 : tie.Need-greater-requires-5
+greater-requires-5 c κs = search needs
+
+enum-told-5 : tie.Need-enum-told-5
+enum-told-5 c = search needs
+
+tension-resistance-requires-2 : tie.Need-tension-resistance-requires-2
+tension-resistance-requires-2 c κs = search needs
+
+moment-resistance-requires-3 : tie.Need-moment-resistance-requires-3
+moment-resistance-requires-3 c κs = search needs
+
+tension-bending-requires : tie.Need-tension-bending-requires
+tension-bending-requires c κs = search needs
+
+used-at-requires : tie.Need-used-at-requires
+used-at-requires c κs = search needs
+
+shear-check-requires-3 : tie.Need-shear-check-requires-3
+shear-check-requires-3 c κs = search needs
+
+greater-requires-6 : tie.Need-greater-requires-6
+greater-requires-6 c κs = search needs
+
+returns : tie.Need-returns
+unfolding greatest
+returns c =
+    let start = c .before .before in
+    rw (start .before .before .pre .1, ← (c .before .tension-resistance .ensures .exact)) (c .against .ensures) ∙ agrees _ (start .enum-told .given .1)
+
+returns-2 : tie.Need-returns-2
+returns-2 c =
+    let moment = c .before .before in
+    let start = moment .before .before in
+    governs _ _ refl (bending-found (start .before .before .args .m) (moment .before .moment-resistance .ensures .exact) (moment .against2 .ensures)) _
+    (only _ _ refl (c .before .shear-check .ensures))
+    (c .greater .ensures)
+    ∙ agrees _ (start .enum-told2 .given .1)
+
+returns-3 : tie.Need-returns-3
+returns-3 c =
+    let width = c .before .before .before in
+    let nr = width .before .before .compression-resistance .ensures .exact in
+    let start = width .before .before .before in
+    let m = start .before .before .args .m in
+    governs _ _ refl (buckling-found m acrossHeight nr (width .before .strut .ensures) (c .before .before .buckling-check .ensures)) _
+    (only _ _ refl (buckling-found m acrossWidth nr (width .strut2 .ensures) (c .before .buckling-check2 .ensures)))
+    (c .greater2 .ensures)
+    ∙ agrees _ (start .enum-told3 .given .1)
+
+returns-4 : tie.Need-returns-4
+returns-4 c =
+    let buckling = c .before .before .before .before in
+    let combined = buckling .before .before in
+    let width = combined .before in
+    let height = width .before in
+    let mr = height .before .moment-resistance2 .ensures .exact in
+    let nr = height .before .before .compression-resistance2 .ensures .exact in
+    let start = height .before .before .before in
+    let m = start .before .before .args .m in
+    governs _ _ refl (c .before .shear-check2 .ensures) _
+    (governs _ _ refl (buckling-found m acrossHeight nr (height .strut3 .ensures) (buckling .before .buckling-check3 .ensures)) _
+    (governs _ _ refl (buckling-found m acrossWidth nr (width .strut4 .ensures) (buckling .buckling-check4 .ensures)) _
+    (only _ _ refl (compression-bending-found m nr mr (height .strut3 .ensures) (combined .compression-bending-check .ensures)))
+    (c .before .before .before .greater3 .ensures))
+    (c .before .before .greater4 .ensures))
+    (c .greater5 .ensures)
+    ∙ agrees _ (start .enum-told4 .given .1)
+
+returns-5 : tie.Need-returns-5
+returns-5 c =
+    let combined = c .before .before in
+    let mr = combined .before .before in
+    let start = mr .before .before in
+    governs _ _ refl (c .before .shear-check3 .ensures) _
+    (only _ _ refl
+    (tension-bending-found (start .before .before .args .m) (mr .before .tension-resistance2 .ensures .exact) (mr .moment-resistance3 .ensures .exact) (combined .before .tension-bending .ensures .exact) (combined .used-at .ensures)))
+    (c .greater6 .ensures)
+    ∙ agrees _ (start .enum-told5 .given .1)
+
+pub governing-check-spec : {M : Type 1} → statement M
+governing-check-spec =
+    tie.close
+    (tie.spec
+    enum-told
+    tension-resistance-requires
+    against-requires
+    enum-told-2
+    moment-resistance-requires
+    against-requires-2
+    shear-check-requires
+    greater-requires
+    enum-told-3
+    compression-resistance-requires
+    strut-requires
+    strut-requires-2
+    buckling-check-requires
+    buckling-check-requires-2
+    greater-requires-2
+    enum-told-4
+    compression-resistance-requires-2
+    moment-resistance-requires-2
+    strut-requires-3
+    strut-requires-4
+    compression-bending-check-requires
+    buckling-check-requires-3
+    buckling-check-requires-4
+    greater-requires-3
+    greater-requires-4
+    shear-check-requires-2
+    greater-requires-5
+    enum-told-5
+    tension-resistance-requires-2
+    moment-resistance-requires-3
+    tension-bending-requires
+    used-at-requires
+    shear-check-requires-3
+    greater-requires-6
+    returns
+    returns-2
+    returns-3
+    returns-4
+    returns-5)

@@ -1,0 +1,158 @@
+// The verdict on a member.
+use cellrules::rules::is_required;
+use checks::checks::buckling_check;
+use checks::checks::compression_bending_check;
+use checks::checks::compression_resistance;
+use checks::checks::first_too_slender;
+use checks::checks::moment_resistance;
+use checks::checks::shear_check;
+use checks::checks::tension_resistance;
+use dowels::joint::joint_count;
+use dowels::joint::joint_length_holds;
+use dowels::joint::layout_holds;
+use governing::utilisation::against;
+use governing::utilisation::used_at;
+use governing::verdicts::by_strength;
+use governing::verdicts::failed_on;
+use governing::verdicts::greater;
+use member::kind::Kind;
+use member::member::Member;
+use member::verdict::Governing;
+use member::verdict::Verdict;
+use section::capacity::net_tension_capacity;
+use section::capacity::side_piece_capacity;
+use sp64::joint::Joint;
+use sp64::tables::Stress;
+use stability::combined::tension_bending;
+use stability::strut::strut;
+use strength::design::design_strength;
+ghost use mathlib.Core.Path.{_≡_};
+ghost use mathlib.Core.Bool.{true, false, not, _||_};
+ghost use mathlib.Core.List.{[], _∷_};
+ghost use Rattle.sp64.specs.Joint.{JointRanges, Layout, layoutHolds};
+ghost use Rattle.sp64.specs.Ranges.{InForce, InHeight};
+ghost use Rattle.member.specs.Checks.{jointLength, strengthOf};
+ghost use Rattle.member.specs.Member.{countOf};
+ghost use Rattle.member.specs.Ranges.{Sized, RangesOf};
+ghost use Rattle.member.specs.Verdict.{byStrength, governing, judgeBy, verdict};
+ghost use Rattle.member.specs.declared.kind.Kind.the-variants.{Tension};
+ghost use Rattle.rowcheck.specs.FirstFailed.{firstFailed, exactOf};
+
+// Check 1 holds, or there is no joint.
+fn laid_out(jointed: bool, h: u64, j: Joint) -> bool
+    requires { ⌜ InHeight h × (jointed ≡ true → JointRanges j) ⌝ }
+    ensures { λ r. ⌜ r ≡ (not jointed || layoutHolds h j) ⌝ }
+{
+    if jointed { layout_holds(h, j) } else { true }
+}
+
+// The first of layout and slenderness that fails, 0 where none does. A kind has the checks of slenderness where it has the effective lengths, from cell 11 on.
+fn first_failed(m: Member) -> u32
+    requires { ⌜ RangesOf (m .kind) m ⌝ }
+    ensures { λ r. ⌜ r ≡ firstFailed m (exactOf (m .kind)) ⌝ }
+{
+    if !laid_out(m.jointed, m.height, m.joint) {
+        return 1;
+    }
+    let kind = m.kind;
+    if !is_required(kind, 11) {
+        return 0;
+    }
+    first_too_slender(m.table16, strut(m.lh, m.height), strut(m.lb, m.width))
+}
+
+// The strength check that governs a member without a joint.
+fn governing_check(m: Member) -> Governing
+    requires { ⌜ RangesOf (m .kind) m × (m .jointed ≡ false) ⌝ }
+    ensures { λ r. ⌜ r ≡ governing m (strengthOf (m .kind)) ⌝ }
+{
+    let kind = m.kind;
+    match kind {
+        // check 5
+        Kind::Tension => against(
+            5,
+            m.force,
+            tension_resistance(m.width, m.height, m.material),
+        ),
+        // checks 7 and 8
+        Kind::Bending => {
+            let bending = against(
+                7,
+                m.moment,
+                moment_resistance(m.width, m.height, m.material),
+            );
+            greater(bending, shear_check(m.shear, m.width, m.height, m.material))
+        }
+        // checks 9 and 10
+        Kind::Compression => {
+            let nr = compression_resistance(m.width, m.height, m.material);
+            let height = strut(m.lh, m.height);
+            let width = strut(m.lb, m.width);
+            greater(
+                buckling_check(9, m.force, nr, height),
+                buckling_check(10, m.force, nr, width),
+            )
+        }
+        // checks 8 to 11
+        Kind::CompressionBending => {
+            let nr = compression_resistance(m.width, m.height, m.material);
+            let mr = moment_resistance(m.width, m.height, m.material);
+            let height = strut(m.lh, m.height);
+            let width = strut(m.lb, m.width);
+            let combined = compression_bending_check(m.force, m.moment, nr, mr, height);
+            let buckling = greater(
+                buckling_check(9, m.force, nr, height),
+                greater(buckling_check(10, m.force, nr, width), combined),
+            );
+            greater(
+                shear_check(m.shear, m.width, m.height, m.material),
+                buckling,
+            )
+        }
+        // checks 8 and 11
+        Kind::TensionBending => {
+            let nr = tension_resistance(m.width, m.height, m.material);
+            let mr = moment_resistance(m.width, m.height, m.material);
+            let combined = used_at(11, tension_bending(m.force, m.moment, nr, mr));
+            greater(
+                shear_check(m.shear, m.width, m.height, m.material),
+                combined,
+            )
+        }
+    }
+}
+
+// The verdict on a member with a joint whose layout holds: checks 4 to 6.
+fn judge_joint(m: Member) -> Verdict
+    requires { ⌜ Sized m × InForce (m .force) × JointRanges (m .joint) × Layout (m .height) (m .joint) × (m .jointed ≡ true) ⌝ }
+    ensures { λ r. ⌜ r ≡ judgeBy m (jointLength ∷ []) (byStrength (governing m (strengthOf Tension)) (countOf m)) ⌝ }
+{
+    let count = joint_count(m.force, m.width, m.joint, m.material);
+    if !joint_length_holds(m.joint, count) {
+        return failed_on(4, count as u32);
+    }
+    let r = design_strength(Stress::Tension, m.material);
+    let net = against(
+        5,
+        m.force,
+        net_tension_capacity(m.width, m.height, m.joint, r),
+    );
+    let side = against(6, m.force, side_piece_capacity(m.height, m.joint, r));
+    by_strength(greater(net, side), count as u32)
+}
+
+// The verdict on a member of an accepted row.
+pub fn judge(m: Member) -> Verdict
+    requires { ⌜ RangesOf (m .kind) m ⌝ }
+    ensures { λ r. ⌜ r ≡ verdict m ⌝ }
+{
+    let failed = first_failed(m);
+    if failed != 0 {
+        return failed_on(failed, 0);
+    }
+    if m.jointed {
+        judge_joint(m)
+    } else {
+        by_strength(governing_check(m), 0)
+    }
+}
