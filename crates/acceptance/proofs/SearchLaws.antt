@@ -1,6 +1,6 @@
 -- Laws of the searches through the cells: what a turn of a search knows, and which cells it may pass over.
 -- Assumes nothing.
-use Prim.Native.Nat.{ℕ, zero, suc, _+_, _≤_, _<_}
+use Prim.Native.Nat.{ℕ, zero, suc, _+_, _-_, _≤_, _<_}
 use native.Mathlib.Omega.{arith}
 use mathlib.Core.Bool.{Bool, true, false, cond, and-false}
 use mathlib.Core.List.{List}
@@ -81,8 +81,8 @@ module _ (kind : Kind) (cells : List Cell) (whole : length cells ≡ cellCount) 
       let regime : codesFrom 2 ≡ cond t3 3 (codesFrom 3) = step 2 t3 (omega (arith, whole)) e3 in
       let between : codesFrom 3 ≡ codesFrom 12 = over 9 3 (omega arith) (λ j low high. (λ e. omega (arith, low, e), λ e. omega (arith, low, e), λ e. omega (arith, high, e))) in
       let table16 : codesFrom 12 ≡ cond t13 13 (codesFrom 13) = step 12 t13 (omega (arith, whole)) e13 in
-      let last : codesFrom 13 ≡ codesFrom 22 = over 9 13 (omega arith) (λ j low high. (λ e. omega (arith, low, e), λ e. omega (arith, low, e), λ e. omega (arith, low, e))) in
-      rw (first, grade, regime, between, table16, last, search-end (unknownCode kind) cells 22 (omega (arith, whole)))
+      let last : codesFrom 13 ≡ codesFrom cellCount = over (cellCount - 13) 13 (omega arith) (λ j low high. (λ e. omega (arith, low, e), λ e. omega (arith, low, e), λ e. omega (arith, low, e))) in
+      rw (first, grade, regime, between, table16, last, search-end (unknownCode kind) cells cellCount (omega (arith, whole)))
 
 -- n is what a search of a part found, and `next` the search after it: together they are n where it is some cell, and `next` where it is none
 pub part-found : (n next : ℕ) → (n ≡ 0 → ⊥) → n ≡ cond (eqb n 0) next n

@@ -1,6 +1,7 @@
 // The ranges of the cells.
 ghost use mathlib.Core.Path.{_≡_};
 ghost use Rattle.rounding.specs.Range.{In};
+ghost use Rattle.cells.specs.Row.{cellCount};
 ghost use Rattle.member.specs.Cells.{leastOf, greatestOf, inRange};
 
 // The least and the greatest value of a cell.
@@ -24,7 +25,7 @@ fn any_code() -> Limits
 
 // The range of cell n. A match and not an array, which would be built anew at every use.
 fn range_of(n: u32) -> Limits
-    requires { ⌜ In 1 22 n ⌝ }
+    requires { ⌜ In 1 cellCount n ⌝ }
     ensures { λ r. ⌜ (r .least ≡ leastOf n) × (r .greatest ≡ greatestOf n) ⌝ }
 {
     match n {
@@ -56,7 +57,7 @@ fn range_of(n: u32) -> Limits
 
 // Whether the value in cell n is in its range.
 pub fn is_in_range(n: u32, value: u64) -> bool
-    requires { ⌜ In 1 22 n ⌝ }
+    requires { ⌜ In 1 cellCount n ⌝ }
     ensures { λ r. ⌜ r ≡ inRange n value ⌝ }
 {
     let range = range_of(n);

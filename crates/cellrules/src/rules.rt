@@ -8,6 +8,7 @@ use strength::tables::slenderness_limit;
 use strength::tables::table_strength;
 ghost use mathlib.Core.Path.{_≡_};
 ghost use Rattle.rounding.specs.Range.{In};
+ghost use Rattle.cells.specs.Row.{cellCount};
 ghost use Rattle.member.specs.Cells.{filled, valueOf, within, required, optional, wanted, compressed, knownRow, knownCode};
 ghost use Rattle.member.specs.Acceptance.{begins, misfilled, unknownCode, outOfRange};
 
@@ -126,7 +127,7 @@ pub fn is_unknown(kind: Kind, n: u32, cell: Cell) -> bool
 
 // Whether cell n has a value outside its range.
 pub fn is_outside(n: u32, cell: Cell) -> bool
-    requires { ⌜ In 1 22 n ⌝ }
+    requires { ⌜ In 1 cellCount n ⌝ }
     ensures { λ r. ⌜ r ≡ outOfRange n cell ⌝ }
 {
     is_filled(cell) & !is_in_range(n, value_of(cell))

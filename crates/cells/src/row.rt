@@ -2,7 +2,7 @@
 ghost use mathlib.Core.Path.{_≡_};
 ghost use Rattle.cells.specs.Row.{blankRow};
 
-// How many cells a row has.
+// How many cells a row has: `cellCount`, as `blank_row` shows.
 pub const CELLS: usize = 22;
 
 // A cell of a row.

@@ -205,7 +205,7 @@ pub refusal-answer : (n : ℕ) (bytes : List ℕ) (refusal : Refusal) (r : Unpac
     → (resultOf (r .outcome) (take n (cellsOf (r .row)), r .bytes) ≡ unpacked n bytes) × ((cellsOf (r .row), r .bytes) ≡ held (unpacked n bytes))
 refusal-answer n bytes refusal r e u = rw (e, u) (refl, refl)
 
--- with 22 cells an answer holds the value itself, or blanks, and so always 22 cells
+-- of a whole row an answer holds the value itself, or blanks, and so always a whole row
 pub held-row : (bytes : List ℕ)
     → (held (unpacked cellCount bytes) ≡ valueOr (blanks cellCount, 0) (unpacked cellCount bytes))
     × (length (held (unpacked cellCount bytes) .0) ≡ cellCount)

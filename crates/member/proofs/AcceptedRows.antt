@@ -12,7 +12,7 @@ use Rattle.member.specs.WorkedRows.{rowA, rowB, rowE, rowF, rowWithoutJo
 use Rattle.member.specs.declared.kind.Kind.the-variants.{Tension, Bending, Compression, CompressionBending, TensionBending}
 use Rattle.member.specs.declared.member.Member.{Member}
 
--- they are rows: of 22 cells each
+-- they are whole rows
 pub rows-whole : (length rowE ≡ cellCount) × (length rowF ≡ cellCount) × (length rowWithoutJoint ≡ cellCount) × (length rowA ≡ cellCount)
     × (length rowB ≡ cellCount) × (length edgeRow ≡ cellCount) × (length rowOfKind5 ≡ cellCount)
 rows-whole = (refl, refl, refl, refl, refl, refl, refl)

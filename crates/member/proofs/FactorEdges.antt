@@ -66,23 +66,23 @@ pub count-25 : (passes : Bool) (check utilisation : ℕ) → Demand3 joint (says
 count-25 p c u d = let le : 25 ≤ 24 = d .count-below refl kept 24 count-joint in absurd (omega arith)
 
 -- Checks 5 and 6.
-abbrev tie : Member
-tie = memberOf Tension true (valuesOf tensionEdge)
+abbrev tensionMember : Member
+tensionMember = memberOf Tension true (valuesOf tensionEdge)
 
-pub tension-edge-accepted : (accept tensionEdge ≡ gives tie) × (length tensionEdge ≡ cellCount)
+pub tension-edge-accepted : (accept tensionEdge ≡ gives tensionMember) × (length tensionEdge ≡ cellCount)
 unfolding acceptKind lowest
 tension-edge-accepted = (refl, refl)
 
-pub fail-5 : (utilisation count : ℕ) → Demand3 tie (says false 5 utilisation count) demandFactor → ⊥
+pub fail-5 : (utilisation count : ℕ) → Demand3 tensionMember (says false 5 utilisation count) demandFactor → ⊥
 fail-5 u n d = d .fail (strength netTension) (record { of-kind = inl refl; kept = refl }) (λ low. absurd (omega arith)) (record { fails = refl; names = refl }) (lit≤ tt)
 
-pub past-5 : Holds tie (times 1006 (forcesOf tie)) (strength netTension) → ⊥
+pub past-5 : Holds tensionMember (times 1006 (forcesOf tensionMember)) (strength netTension) → ⊥
 past-5 h = past-it _ _ refl h
 
-pub fail-6 : (utilisation count : ℕ) → Demand3 tie (says false 6 utilisation count) demandFactor → ⊥
+pub fail-6 : (utilisation count : ℕ) → Demand3 tensionMember (says false 6 utilisation count) demandFactor → ⊥
 fail-6 u n d = d .fail (strength sidePieces) (record { of-kind = inr (inl refl); kept = refl }) (λ low. absurd (omega arith)) (record { fails = refl; names = refl }) (lit≤ tt)
 
-pub past-6 : Holds tie (times 1006 (forcesOf tie)) (strength sidePieces) → ⊥
+pub past-6 : Holds tensionMember (times 1006 (forcesOf tensionMember)) (strength sidePieces) → ⊥
 past-6 h = past-it _ _ refl h
 
 -- Checks 7 and 8.

@@ -10,11 +10,12 @@ use lib.ListN.{length, getD}
 use borrow.Author.Tests.{ne-eqb}
 use Rattle.cells.specs.Lowest.{lowest}
 use Rattle.cells.specs.Refusal.{Result, gives, refuses}
+use Rattle.cells.specs.Row.{cellCount}
 use Rattle.cells.specs.declared.row.Cell.{Cell}
 use Rattle.cells.specs.declared.row.Cell.the-variants.{Blank, Whole}
 use Rattle.cells.proofs.LowestLaws.{Passes, FailsAt, lowest-meaning}
 use Rattle.member.specs.Acceptance.{begins, misfilled, unknownCode, outOfRange, lowestCell, isBegun, acceptKind, acceptCode, acceptFirst, accept}
-use Rattle.member.specs.Cells.{filled, optional}
+use Rattle.member.specs.Cells.{filled, optional, ranges}
 use Rattle.member.specs.Kind.{kindOf}
 use Rattle.member.specs.WorkedRows.{rowHalfJoint}
 use Rattle.member.specs.declared.kind.Kind.{Kind}
@@ -53,6 +54,10 @@ module _ (cells : List Cell) (test : ℕ → Cell → Bool) where
             λ e. absurd (omega arith),
             record { place = k; is = refl; inside = r .inside; broken = r .failing Blank; lower = λ j h. r .below j Blank h },
           )
+
+-- There is a range for each cell.
+pub range-for-each : length ranges ≡ cellCount
+range-for-each = refl
 
 -- By example: half a joint is refused for its lowest blank cell, though that is the first of it.
 pub half-joint-refused : accept rowHalfJoint ≡ refuses 2 14

@@ -97,7 +97,7 @@ module _ (m : Member) where
 pub accepted-verdict-range : (cells : List Cell) (m : Member) → length cells ≡ cellCount → accept cells ≡ gives m → VerdictRange (verdict m)
 accepted-verdict-range cells m whole given = verdict-range m (accept-ranges cells m whole given)
 
--- and the greatest count and utilisation are reached, by rows of 22 cells
+-- and the greatest count and utilisation are reached, by whole rows
 pub most-dowels : (checkRow mostDowels ≡ gives (record { passes = false; check = 4; utilisation = 0; count = 6988121 })) × (length mostDowels ≡ cellCount)
 unfolding acceptKind lowest judgeBy greatest
 most-dowels = (refl, refl)

@@ -1,4 +1,4 @@
--- The twenty-two cells: which of them a kind fills, which codes are known, and the range of each value.
+-- The cells of a row: which of them a kind fills, which codes are known, and the range of each value.
 -- Assumes nothing.
 use Prim.Native.Nat.{ℕ, _-_}
 use mathlib.Core.Bool.{Bool, true, false, cond, _&&_, _||_, Bool·beq}

@@ -1,11 +1,11 @@
--- How long a packed row is, for any number of cells and for 22, and small rows worked out.
+-- How long a packed row is, for any number of cells and for a whole row, and small rows worked out.
 -- Assumes nothing.
 use mathlib.Core.Path.{_≡_, refl}
 use Prim.Native.Nat.{ℕ, _+_, _*_, _≤_, _<_}
 use native.Mathlib.Omega.{arith}
 use mathlib.Core.List.{List, [], _∷_}
 use lib.ListN.{length}
-use Rattle.cells.specs.Row.{cellCount, blanks}
+use Rattle.cells.specs.Row.{cellCount, blanks, withCell}
 use Rattle.cells.specs.Refusal.{gives, refuses}
 use Rattle.cells.specs.declared.row.Cell.{Cell}
 use Rattle.cells.specs.declared.row.Cell.the-variants.{Whole}
@@ -50,12 +50,12 @@ pub cut-row : unpacked cellCount (0 ∷ []) ≡ refuses 6 9
 unfolding bits bitsOf parse before ending unpacked
 cut-row = refl
 
--- 22 blanks and a padding bit that is 1
+-- a row of blanks and a padding bit that is 1
 pub padded-row : unpacked cellCount (0 ∷ 0 ∷ 1 ∷ []) ≡ refuses 7 0
 unfolding bits bitsOf parse before anySet ending unpacked
 padded-row = refl
 
--- cell 1 holds 1 and the others are blank: the bit 1, the value's 34 bits with its only 1 last, 21 blanks
-pub one-cell : packed (Whole 1 ∷ blanks 21) ≡ 0x80 ∷ 0 ∷ 0 ∷ 0 ∷ 0x20 ∷ 0 ∷ 0 ∷ []
+-- cell 1 holds 1 and the others are blank: the bit 1, the value's 34 bits with its only 1 last, and the blanks
+pub one-cell : packed (withCell 1 (Whole 1) (blanks cellCount)) ≡ 0x80 ∷ 0 ∷ 0 ∷ 0 ∷ 0x20 ∷ 0 ∷ 0 ∷ []
 unfolding bits number bytesOf cellBits rowBits packed
 one-cell = refl

@@ -45,7 +45,7 @@ abbrev pub Given : {A : Type 0} → (A → Type 0) → Result A → Type 0
 Given P (gives value) = P value
 Given P (refuses number cell) = ⊥
 
--- what a case says, of a row of twenty-two cells and of the member that "Check a row" takes from it
+-- what a case says, of a whole row and of the member that "Check a row" takes from it
 abbrev pub Says : Case → Type 0
 Says (verdict cells v) = (length cells ≡ cellCount) × (checkRow cells ≡ gives v)
 Says (figure cells value n) = Given (λ (m : Member). value m ≡ n) (accept cells)

@@ -52,6 +52,6 @@ table =
     figure rowF countOf 25 ∷
     -- G: too little height for three dowels
     verdict rowG (fail 1 0 0) ∷
-    -- H: packed, it is 22 bits and two to fill the third byte
+    -- H: packed, a bit for each cell and zeros to fill the third byte
     packs rowH (0 ∷ 0 ∷ 0 ∷ []) ∷
     []

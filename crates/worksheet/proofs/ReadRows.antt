@@ -69,6 +69,6 @@ read-bytes bytes = by (eqb (length bytes) (hostCellBytes * cellCount))
         (read-cells (hostCellsAt cellCount bytes 0))
     by false = tt
 
--- a row read from the host's bytes has 22 cells, each blank or below 2 ^ 34
+-- a row read from the host's bytes is whole, each cell blank or below 2 ^ 34
 pub row-as-read : (bytes : List ℕ) (cells : List Cell) → readHostRow bytes ≡ gives cells → AsRead cellCount cells
 row-as-read bytes cells e = subst (λ (r : Result (List Cell)). IfGiven cellCount r) e (read-bytes bytes)

@@ -168,7 +168,7 @@ one-from-bytes = refl
 
 -- A row of another length than 198 bytes is refused, tied to no cell.
 pub another-length : (bytes : List ℕ) → (length bytes ≡ 198 → ⊥) → readHostRow bytes ≡ refuses 1 0
-another-length bytes other = rw (ne-eqb (length bytes) 198 other)
+another-length bytes other = rw (ne-eqb (length bytes) _ other)
 
 -- A blank cell reads as blank.
 pub blank-stays : readCell Empty ≡ Read Blank

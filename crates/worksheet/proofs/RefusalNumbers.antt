@@ -1,4 +1,4 @@
--- Which refusals an entry can return, and for which cell: a number from 1 to 5, and no cell above 22.
+-- Which refusals an entry can return, and for which cell: a number from 1 to 5, and no cell past the last.
 -- Assumes nothing.
 use Prim.Native.Nat.{ℕ, _+_, _*_, _^_, _≤_}
 use mathlib.Core.Bool.{Bool, true, false, cond}
@@ -57,7 +57,7 @@ reading-numbered bytes =
     (by-test 1 1 1 (lowestUnreadable cells) (gives (asRead cells)) one lowest-in tt (eqb (lowestUnreadable cells) 0))
     (eqb (length bytes) (hostCellBytes * cellCount))
 
--- checking a row of 22 cells refuses with 2 to 4
+-- checking a whole row refuses with 2 to 4
 module _ (cells : List Cell) (whole : length cells ≡ cellCount) where
   in-row : (test : ℕ → Cell → Bool) → lowestCell test cells ≤ cellCount
   in-row test = omega (arith, lowest-most test cells, whole)

@@ -22,7 +22,7 @@ Inv-loop cells values₀ i₀ values i =
 abbrev μ-loop : tie.MeasureT-loop
 μ-loop cells values₀ i₀ values i = cellCount - i
 
--- there are 22 values
+-- there is a value for each cell
 all-values : (c : tie.At-loop Inv-loop μ-loop) → length (valuesOf (cellsOf (c .before .before .args .row))) ≡ cellCount
 all-values c =
     let row = c .before .before .args .row in

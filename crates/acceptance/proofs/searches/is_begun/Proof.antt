@@ -25,7 +25,7 @@ Inv-loop kind cells i₀ i =
 abbrev μ-loop : tie.MeasureT-loop
 μ-loop kind cells i₀ i = cellCount - i
 
--- the row has 22 cells
+-- the row is whole
 all-cells : (c : tie.At-loop Inv-loop μ-loop) → length (cellsOf (c .before .before .args .row)) ≡ cellCount
 all-cells c =
     let row = c .before .before .args .row in

@@ -2,6 +2,7 @@
 -- Assumes nothing.
 use native.Mathlib.Omega.{arith}
 use borrow.Author.Needs.{needs}
+use Rattle.cells.specs.Row.{cellCount}
 use Rattle.cellrules.proofs.MatchLaws.{past}
 use Rattle.cellrules.proofs.ranges.range_of.Statement.{statement}
 use Rattle.cellrules.proofs.ranges.range_of.Tie as tie
@@ -143,7 +144,7 @@ returns-22 c = rw (c .before .match .keys22) (c .from-to18 .ensures)
 
 -- there is no other cell
 returns-23 : tie.Need-returns-23
-returns-23 c = absurd (omega (arith, past Unit 1 22 _ (c .before .match .rest) .1 (c .before .before .pre .low), c .before .before .pre .high))
+returns-23 c = absurd (omega (arith, past Unit 1 cellCount _ (c .before .match .rest) .1 (c .before .before .pre .low), c .before .before .pre .high))
 
 pub range-of-spec : {M : Type 1} → statement M
 range-of-spec =

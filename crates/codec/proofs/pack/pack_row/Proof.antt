@@ -1,4 +1,4 @@
--- `pack_row` meets its contract: the first 22 cells of a row are all its cells.
+-- `pack_row` meets its contract: the first `cellCount` cells of a row are all its cells.
 -- Assumes nothing.
 use mathlib.Core.Path.{sym, _∙_}
 use native.Mathlib.Omega.{arith}

@@ -1,4 +1,4 @@
--- `unpack_row` meets its contract: the first 22 cells of a row are all its cells, and every element of a lent slice is a byte.
+-- `unpack_row` meets its contract: the first `cellCount` cells of a row are all its cells, and every element of a lent slice is a byte.
 -- Assumes nothing.
 use mathlib.Core.Path.{_≡_, sym, ap, _∙_}
 use Prim.Native.Nat.{ℕ}
