@@ -27,7 +27,7 @@ archive:
 # The second implementation against the add-in, demand 3 on its verdicts, the wrong copies, the header, the sheet, the program.
 host-tests: prove
 	rt staticlib addin
-	$(HOST) test --offline --profile checked -- --nocapture
+	$(HOST) test --offline --profile checked --workspace -- --nocapture
 
 # The command ends with 1 where a member fails or is refused, as some of the hall roof do.
 demo: archive

@@ -1,0 +1,55 @@
+//! The two entries that a host calls, on byte slices.
+use crate::rules::Rules;
+use lvl_addin::answer::{Refusal, Verdict};
+use lvl_addin::row::ANSWER_BYTES;
+
+/// The bytes of a verdict: utilisation, count and check number as floats, each of them exact.
+pub fn answer_bytes<R: Rules>(verdict: &Verdict) -> [u8; ANSWER_BYTES] {
+    let mut bytes = [0; ANSWER_BYTES];
+    let numbers = [verdict.utilisation, verdict.count, verdict.check];
+    for (part, number) in bytes.chunks_exact_mut(8).zip(numbers) {
+        part.copy_from_slice(&R::float_bytes(f64::from(number)));
+    }
+    bytes
+}
+
+/// The bytes of a float in an answer.
+pub fn float_bytes(number: f64) -> [u8; 8] {
+    number.to_bits().to_le_bytes()
+}
+
+/// Whether an answer fits the lent bytes: only where they are just as many.
+pub fn answer_fits(length: usize) -> bool {
+    length == ANSWER_BYTES
+}
+
+/// The number that is returned for a verdict.
+pub fn verdict_code(verdict: &Verdict) -> u64 {
+    u64::from(!verdict.passes)
+}
+
+/// The number that is returned for a refusal.
+pub fn refusal_code(refusal: Refusal) -> u64 {
+    1000 * u64::from(refusal.number) + u64::from(refusal.cell)
+}
+
+/// The entry for checking. The answer's length is looked at last, and a refusal writes nothing.
+pub fn check_bytes<R: Rules>(row: &[u8], answer: &mut [u8]) -> u64 {
+    let judged = R::read_row(row).and_then(|cells| R::check_row(&cells));
+    match judged {
+        Err(refusal) => R::refusal_code(refusal),
+        Ok(_) if !R::answer_fits(answer.len()) => R::refusal_code(Refusal { number: 5, cell: 0 }),
+        Ok(verdict) => {
+            answer[..ANSWER_BYTES].copy_from_slice(&R::answer_bytes(&verdict));
+            R::verdict_code(&verdict)
+        }
+    }
+}
+
+/// The entry for packing: any row that reads, whether the check would judge or refuse it.
+pub fn pack_bytes<R: Rules>(row: &[u8], out: &mut [u8]) -> u64 {
+    match R::read_row(row).and_then(|cells| R::pack(&cells, out)) {
+        Ok(length) => length as u64,
+        Err(refusal) => R::refusal_code(refusal),
+    }
+}

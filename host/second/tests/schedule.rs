@@ -1,0 +1,244 @@
+//! The program `schedule` against the second implementation's text, and its stored input and output.
+use lvl_addin::answer::Refusal;
+use lvl_second::rows::inputs;
+use lvl_second::rows::judged;
+use lvl_second::rows::random::Random;
+use lvl_second::{Paper, Rules, INPUT_BYTES};
+use std::collections::BTreeSet;
+use std::io::{Read, Write};
+use std::path::{Path, PathBuf};
+use std::process::{Child, Command, Stdio};
+use std::time::Duration;
+
+/// What document 01 gives for the bytes 00 00 00 80.
+const OF_THE_PAPER: &str = "1 refused 2 1\n2 refused 6 1\n";
+
+fn root() -> PathBuf {
+    Path::new(env!("CARGO_MANIFEST_DIR")).join("../..")
+}
+
+fn stored_folder() -> PathBuf {
+    root().join("crates").join("schedule")
+}
+
+/// Starts the built program.
+fn start() -> Child {
+    let program = root().join("target").join("bin").join("schedule");
+    let started = Command::new(&program)
+        .stdin(Stdio::piped())
+        .stdout(Stdio::piped())
+        .spawn();
+    started.unwrap_or_else(|why| {
+        panic!(
+            "{}: {why}; `rt check schedule` builds it",
+            program.display()
+        )
+    })
+}
+
+/// What the program prints for an input that is written in pieces of this length, with a pause after each.
+fn printed_in_pieces(input: &[u8], length: usize, pause: Duration) -> String {
+    let mut program = start();
+    let mut stdin = program.stdin.take().expect("standard input is piped");
+    let mut stdout = program.stdout.take().expect("standard output is piped");
+    let text = std::thread::scope(|scope| {
+        scope.spawn(move || {
+            for piece in input.chunks(length) {
+                // The program may end before it has read everything.
+                if stdin.write_all(piece).and_then(|()| stdin.flush()).is_err() {
+                    break;
+                }
+                std::thread::sleep(pause);
+            }
+        });
+        let mut text = String::new();
+        stdout
+            .read_to_string(&mut text)
+            .expect("the program prints text");
+        text
+    });
+    assert!(program.wait().expect("the program ends").success());
+    text
+}
+
+/// What the program prints for an input.
+fn printed(input: &[u8]) -> String {
+    printed_in_pieces(input, input.len().max(1), Duration::ZERO)
+}
+
+fn assert_printed(input: &[u8]) {
+    assert_eq!(printed(input), Paper::schedule(input), "{input:02x?}");
+}
+
+/// The last line's refusal, if it is one.
+fn last_refusal(text: &str) -> Option<Refusal> {
+    let mut fields = text.lines().last()?.split(' ').skip(1);
+    (fields.next()? == "refused").then_some(())?;
+    Some(Refusal {
+        number: fields.next()?.parse().ok()?,
+        cell: fields.next()?.parse().ok()?,
+    })
+}
+
+/// The stored files hold what this package makes anew; with `LVL_WRITE_STORED=1` in the environment they are written.
+#[test]
+fn the_stored_files_are_up_to_date() {
+    let folder = stored_folder();
+    let input = inputs::stored();
+    let output = Paper::schedule(&input);
+    let files = [("stdin", &input[..]), ("stdout", output.as_bytes())];
+    for (name, bytes) in files {
+        let file = folder.join(name);
+        if std::env::var_os("LVL_WRITE_STORED").is_some_and(|set| set == "1") {
+            std::fs::create_dir_all(&folder).expect("the folder can be made");
+            std::fs::write(&file, bytes).expect("the file can be written");
+        }
+        let stored = std::fs::read(&file).unwrap_or_else(|why| panic!("{}: {why}", file.display()));
+        assert!(
+            stored == bytes,
+            "{} differs: LVL_WRITE_STORED=1 writes it anew",
+            file.display()
+        );
+    }
+}
+
+/// The stored input shows the verdicts of every check and the refusals, but for 7, which would stop it early.
+#[test]
+fn the_stored_input_is_worth_storing() {
+    let input = inputs::stored();
+    assert!(input.len() <= INPUT_BYTES);
+    let text = Paper::schedule(&input);
+    let shown: BTreeSet<String> = text
+        .lines()
+        .filter_map(|line| line.split_once(' '))
+        .map(|(_, rest)| rest.split(' ').take(2).collect::<Vec<_>>().join(" "))
+        .collect();
+    for fails in 1..=11 {
+        assert!(
+            shown.contains(&format!("fail {fails}")),
+            "no fail on check {fails}"
+        );
+    }
+    for passes in 5..=11 {
+        assert!(
+            shown.contains(&format!("pass {passes}")),
+            "no pass on check {passes}"
+        );
+    }
+    for refused in [2, 3, 4, 6] {
+        assert!(
+            shown.contains(&format!("refused {refused}")),
+            "no refusal {refused}"
+        );
+    }
+    assert_eq!(
+        last_refusal(&text),
+        Some(Refusal {
+            number: 6,
+            cell: 22
+        })
+    );
+}
+
+#[test]
+fn the_stored_input_prints_the_stored_output() {
+    let stored = |name| std::fs::read(stored_folder().join(name)).expect("the file is stored");
+    assert_eq!(printed(&stored("stdin")).as_bytes(), stored("stdout"));
+}
+
+#[test]
+fn nothing_prints_nothing() {
+    assert_eq!(printed(&[]), "");
+}
+
+#[test]
+fn the_example_bytes_print_the_example_lines() {
+    let input = [0x00, 0x00, 0x00, 0x80];
+    assert_eq!(Paper::schedule(&input), OF_THE_PAPER);
+    assert_eq!(printed(&input), OF_THE_PAPER);
+}
+
+#[test]
+fn a_set_padding_bit_stops_the_program() {
+    for bit in [1, 2] {
+        let input = [0x00, 0x00, bit, 0x00, 0x00, 0x00];
+        assert_eq!(printed(&input), "1 refused 7 0\n");
+    }
+    // The lowest bit that still belongs to cell 22.
+    assert_printed(&[0x00, 0x00, 0x04, 0x00, 0x00, 0x00, 0x00]);
+}
+
+/// A full row cut off after each of its bytes names every cell in turn.
+#[test]
+fn a_row_cut_off_anywhere_names_the_lowest_cell_cut() {
+    let mut whole = Vec::new();
+    inputs::append(&[Some(1); 22], &mut whole);
+    let mut named = BTreeSet::new();
+    for length in 1..whole.len() {
+        let text = printed(&whole[..length]);
+        assert_eq!(text, Paper::schedule(&whole[..length]));
+        let refusal = last_refusal(&text).expect("a cut row is refused");
+        assert_eq!(refusal.number, 6);
+        named.insert(refusal.cell);
+    }
+    assert_eq!(named, (1..=22).collect());
+}
+
+#[test]
+fn what_exceeds_the_limit_is_ignored() {
+    let mut random = Random::new(65_536);
+    let ends_between_rows = inputs::long(&mut random, 0);
+    assert!(ends_between_rows.len() > INPUT_BYTES);
+    assert!(Paper::unpack(&ends_between_rows[INPUT_BYTES..]).is_ok());
+    let text = printed(&ends_between_rows);
+    assert_eq!(text, Paper::schedule(&ends_between_rows[..INPUT_BYTES]));
+    assert_eq!(text, Paper::schedule(&ends_between_rows));
+    assert!(last_refusal(&text).is_none_or(|refusal| refusal.number != 6));
+    assert_eq!(printed(&ends_between_rows[..INPUT_BYTES]), text);
+    for beyond in [1, 2] {
+        let cut_by_the_limit = inputs::long(&mut random, beyond);
+        let text = printed(&cut_by_the_limit);
+        assert_eq!(text, Paper::schedule(&cut_by_the_limit));
+        assert_eq!(last_refusal(&text).map(|refusal| refusal.number), Some(6));
+    }
+}
+
+#[test]
+fn an_input_far_beyond_the_limit_ends() {
+    let mut random = Random::new(3);
+    let mut input = inputs::long(&mut random, 0);
+    input.resize(1_000_000, 0);
+    assert_printed(&input);
+}
+
+#[test]
+fn an_input_in_slow_pieces_prints_the_same() {
+    let mut random = Random::new(11);
+    let mut input = Vec::new();
+    for kind in [1, 2, 3, 4, 5] {
+        inputs::append(&judged::row(&mut random, kind, kind == 1), &mut input);
+    }
+    input.pop();
+    let expected = Paper::schedule(&input);
+    assert_eq!(
+        printed_in_pieces(&input, 1, Duration::from_millis(2)),
+        expected
+    );
+    assert_eq!(
+        printed_in_pieces(&input, 7, Duration::from_millis(5)),
+        expected
+    );
+    let long = inputs::long(&mut random, 1);
+    assert_eq!(
+        printed_in_pieces(&long, 1000, Duration::from_millis(2)),
+        Paper::schedule(&long)
+    );
+}
+
+#[test]
+fn any_inputs_print_the_second_implementations_text() {
+    let mut random = Random::new(200);
+    for _ in 0..200 {
+        assert_printed(&inputs::any(&mut random));
+    }
+}

@@ -1,0 +1,78 @@
+//! Why a row is refused, in words: the refusal's number, its cell, and what was typed there.
+use crate::number::Typed;
+use crate::row::SheetRow;
+use crate::text::shown;
+use crate::words;
+use lvl_addin::answer::Refusal;
+
+/// The greatest number that a cell can hold.
+const GREATEST: f64 = 17_179_869_183.0;
+
+/// How much of a cell's text is quoted.
+const QUOTED: usize = 24;
+
+/// "cell 9 moment M: blank, but kind 2 needs it".
+pub fn refusal(refusal: Refusal, row: &SheetRow) -> String {
+    let number = refusal.cell as usize;
+    let Some(words) = words::cell_words(number) else {
+        return format!("refusal {} of the whole row", refusal.number);
+    };
+    let typed = row.cell(number);
+    let text = shown(&row.text(number), QUOTED);
+    let reason = match refusal.number {
+        1 => unreadable(typed, &text),
+        2 => misfilled(number, row),
+        3 => unknown(number, &text),
+        4 => format!("{text} is outside {}", range(words)),
+        other => format!("refusal {other}"),
+    };
+    format!("cell {number} {}: {reason}", words.name)
+}
+
+/// For a row that goes on past cell 22.
+pub fn extra_column(row: &SheetRow) -> String {
+    match row.extra_column() {
+        Some((column, field)) => {
+            let text = shown(&String::from_utf8_lossy(&field), QUOTED);
+            format!("column {column}: \"{text}\" stands past the last cell, 22 km")
+        }
+        None => "no column past the last cell is filled".to_owned(),
+    }
+}
+
+fn unreadable(typed: Typed, text: &str) -> String {
+    match typed {
+        Typed::Text => format!("\"{text}\" is not a number"),
+        Typed::Unclear => format!("\"{text}\" can be read in two ways: leave the mark out"),
+        Typed::Number(number) if number < 0.0 => format!("{text} is below zero"),
+        Typed::Number(number) if number > GREATEST => format!("{text} is too great"),
+        Typed::Number(_) => format!("{text} is not a whole number"),
+        Typed::Blank => "cannot be read".to_owned(),
+    }
+}
+
+fn misfilled(number: usize, row: &SheetRow) -> String {
+    let kind = row.cell(1).whole();
+    match (row.cell(number), kind) {
+        (Typed::Blank, None) => "blank".to_owned(),
+        (Typed::Blank, Some(_)) if number >= 14 => "blank, but a joint is begun".to_owned(),
+        (Typed::Blank, Some(kind)) => format!("blank, but kind {kind} needs it"),
+        (_, Some(kind)) => format!("filled, but not for kind {kind}"),
+        (_, None) => "filled".to_owned(),
+    }
+}
+
+fn unknown(number: usize, text: &str) -> String {
+    match (number, text) {
+        (3, "9") => "9 stands for К, which belongs to fire".to_owned(),
+        (13, _) => format!("{text} is not a row for this kind"),
+        _ => format!("{text} is not a known code"),
+    }
+}
+
+fn range(words: &words::CellWords) -> String {
+    match words.unit {
+        "" => words.range.to_owned(),
+        unit => format!("{} {unit}", words.range),
+    }
+}
