@@ -17,7 +17,7 @@ pub struct Verdict {
 pub struct Refusal {
     /// 1 to 7.
     pub number: u32,
-    /// The cell that is named, 1 to 22, or 0.
+    /// The cell that is named, from 1, or 0 where none is.
     pub cell: u32,
 }
 

@@ -1,6 +1,6 @@
 //! A row as the host has it, and its bytes.
 
-/// How many cells a row has.
+/// How many cells a row has. Every other size follows from it.
 pub const CELLS: usize = 22;
 
 /// The bytes of the host's row: for each cell one that says whether it is filled and eight of the float.
@@ -9,8 +9,9 @@ pub const ROW_BYTES: usize = 9 * CELLS;
 /// The bytes of an answer: three floats.
 pub const ANSWER_BYTES: usize = 24;
 
-/// The most bytes that a packed row takes.
-pub const PACKED_BYTES: usize = 97;
+/// The most bytes that a packed row takes: for each cell a bit that says whether it is filled and the 34 bits of its
+/// value, and what fills the last byte.
+pub const PACKED_BYTES: usize = ((1 + 34) * CELLS).div_ceil(8);
 
 /// The cells of a row, cell 1 first: blank or a float.
 pub type HostRow = [Option<f64>; CELLS];

@@ -21,7 +21,8 @@ pub fn kind_of<R: Rules>(cells: &Cells) -> Result<Kind, Refusal> {
 
 /// Whether a row describes a joint, or begins to: only a tie may have one.
 pub fn joint_begun(kind: Kind, cells: &Cells) -> bool {
-    kind == Kind::Tension && (FIRST_OF_JOINT..=CELLS).any(|number| cell(cells, number).is_some())
+    let filled = |number| cell(cells, number).is_some();
+    kind == Kind::Tension && (FIRST_OF_JOINT..=LAST_OF_JOINT).any(filled)
 }
 
 /// Whether a cell must be filled; any other must be blank.
@@ -30,7 +31,8 @@ pub fn must_be_filled(kind: Kind, number: usize, joint_begun: bool) -> bool {
         KIND..=HEIGHT => true,
         AXIAL | LENGTH_H..=TABLE_16_ROW => kind != Kind::Bending,
         MOMENT | SHEAR => !matches!(kind, Kind::Tension | Kind::Compression),
-        _ => joint_begun,
+        FIRST_OF_JOINT..=LAST_OF_JOINT => joint_begun,
+        _ => false,
     }
 }
 

@@ -27,8 +27,9 @@ pub const KB: usize = 20;
 pub const KE: usize = 21;
 pub const KM: usize = 22;
 
-/// The first of the cells that describe a joint; they run to the last cell.
+/// The first and the last of the cells that describe a joint.
 pub const FIRST_OF_JOINT: usize = SIDE_THICKNESS;
+pub const LAST_OF_JOINT: usize = KM;
 
 /// What a cell holds.
 pub fn cell(cells: &Cells, number: usize) -> Option<u64> {

@@ -4,7 +4,8 @@
 //! class of row, verdict and refusal that can occur must have occurred often enough to mean something.
 use lvl_addin::answer::Refusal;
 use lvl_addin::entry;
-use lvl_addin::row::ANSWER_BYTES;
+use lvl_addin::row::{ANSWER_BYTES, CELLS};
+use lvl_second::cells::{cell, FIRST_OF_JOINT, KIND};
 use lvl_second::demand3;
 use lvl_second::rows::{Case, Cases, LONGEST_ANSWER, LONGEST_ROW, LONGEST_SPACE};
 use lvl_second::{Cells, Paper, Rules};
@@ -47,7 +48,7 @@ const CLASSES: [Class; 38] = [
 
 /// The cells that have a range. Those of least value 0 (4, 10 and 21) can only be too great.
 #[rustfmt::skip]
-const RANGED: [u32; 18] = [4, 5, 6, 7, 8, 9, 10, 11, 12, 14, 15, 16, 17, 18, 19, 20, 21, 22];
+const RANGED: &[u32] = &[4, 5, 6, 7, 8, 9, 10, 11, 12, 14, 15, 16, 17, 18, 19, 20, 21, 22];
 
 /// The operations that refuse.
 #[derive(Clone, Copy, Debug, PartialEq, Eq, PartialOrd, Ord)]
@@ -67,7 +68,7 @@ fn refusals() -> Vec<(Operation, Refusal)> {
                 .map(|&cell| (operation, Refusal { number, cell })),
         );
     };
-    let all: Vec<u32> = (1..=22).collect();
+    let all: Vec<u32> = (1..=CELLS as u32).collect();
     for operation in [Operation::Check, Operation::Pack] {
         add(operation, 1, &[0]);
         add(operation, 1, &all);
@@ -75,7 +76,7 @@ fn refusals() -> Vec<(Operation, Refusal)> {
     }
     add(Operation::Check, 2, &all);
     add(Operation::Check, 3, &[1, 2, 3, 13]);
-    add(Operation::Check, 4, &RANGED);
+    add(Operation::Check, 4, RANGED);
     add(Operation::Unpack, 6, &all);
     add(Operation::Unpack, 7, &[0]);
     list
@@ -109,8 +110,8 @@ struct Lent {
 }
 
 impl Lent {
-    const SIZE: usize = 192;
     const GUARD: usize = 40;
+    const SIZE: usize = (2 * Lent::GUARD + LONGEST_SPACE).next_multiple_of(8);
 
     /// Bytes in a pattern that differs from row to row and from place to place.
     fn new(length: usize, salt: u64) -> Lent {
@@ -190,8 +191,8 @@ fn compare_check(case: &Case, cells: Result<Cells, Refusal>, salt: u64, tally: &
         .expect("a judged row's answer is whole");
     let verdict = entry::verdict(code == 0, &answer);
     let class = (
-        cells[0].unwrap_or(0),
-        cells[13].is_some(),
+        cell(&cells, KIND).unwrap_or(0),
+        cell(&cells, FIRST_OF_JOINT).is_some(),
         verdict.check,
         verdict.passes,
     );

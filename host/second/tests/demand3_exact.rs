@@ -1,5 +1,7 @@
 //! The exact numbers, and demand 3 as it accepts document 01's worked rows and refutes wrong verdicts on them.
 use lvl_addin::answer::Verdict;
+use lvl_addin::row::CELLS;
+use lvl_second::cells::{FIRST_OF_JOINT, LAST_OF_JOINT};
 use lvl_second::demand3::{keeps, Cells};
 use lvl_second::exact::{Ratio, Wide};
 
@@ -93,7 +95,7 @@ fn ratios_are_exact() {
 
 /// A row whose first cells are these; zeros in the rest stand for blanks.
 fn row<const GIVEN: usize>(given: [u64; GIVEN]) -> Cells {
-    let mut cells = [None; 22];
+    let mut cells = [None; CELLS];
     for (cell, number) in cells.iter_mut().zip(given) {
         *cell = (number != 0).then_some(number);
     }
@@ -105,8 +107,8 @@ fn with(mut cells: Cells, number: usize, value: u64) -> Cells {
     cells
 }
 
-fn without(mut cells: Cells, numbers: std::ops::RangeInclusive<usize>) -> Cells {
-    numbers.for_each(|number| cells[number - 1] = None);
+fn without_joint(mut cells: Cells) -> Cells {
+    cells[FIRST_OF_JOINT - 1..LAST_OF_JOINT].fill(None);
     cells
 }
 
@@ -252,7 +254,7 @@ fn a_fail_on_a_check_that_the_row_lacks_is_refuted() {
         "which the row does not have",
     );
     refuted(tie(), fail(9, 1_000_001, 0), "which the row does not have");
-    let no_joint = without(row_e(), 14..=22);
+    let no_joint = without_joint(row_e());
     for check in [1, 4, 6] {
         refuted(no_joint, fail(check, 0, 0), "which the row does not have");
     }
@@ -387,7 +389,7 @@ fn at_their_limits() -> [(Cells, usize, u32); 11] {
         ])
     };
     [
-        (without(chord(620_000, 1), 14..=22), 8, 5),
+        (without_joint(chord(620_000, 1)), 8, 5),
         (chord(508_400, 60), 8, 5),
         (chord(406_720, 40), 8, 6),
         (beam(58_500_000, 1), 9, 7),

@@ -1,5 +1,7 @@
 //! The program `schedule` against the second implementation's text, and its stored input and output.
 use lvl_addin::answer::Refusal;
+use lvl_addin::row::CELLS;
+use lvl_second::cells::LAST_OF_JOINT;
 use lvl_second::rows::inputs;
 use lvl_second::rows::judged;
 use lvl_second::rows::random::Random;
@@ -135,7 +137,7 @@ fn the_stored_input_is_worth_storing() {
         last_refusal(&text),
         Some(Refusal {
             number: 6,
-            cell: 22
+            cell: LAST_OF_JOINT as u32
         })
     );
 }
@@ -158,21 +160,40 @@ fn the_example_bytes_print_the_example_lines() {
     assert_eq!(printed(&input), OF_THE_PAPER);
 }
 
+/// A row with padding bits, as few of its cells filled as that takes, and how many such bits it has.
+fn padded_row() -> (Vec<u8>, usize) {
+    let bits = |filled: usize| CELLS + 34 * filled;
+    let filled = (0..CELLS).find(|&filled| !bits(filled).is_multiple_of(8));
+    let filled = filled.expect("34 is no multiple of 8");
+    let mut cells = [None; CELLS];
+    cells[..filled].fill(Some(1));
+    let mut row = Vec::new();
+    inputs::append(&cells, &mut row);
+    let padding = 8 * row.len() - bits(filled);
+    (row, padding)
+}
+
 #[test]
 fn a_set_padding_bit_stops_the_program() {
-    for bit in [1, 2] {
-        let input = [0x00, 0x00, bit, 0x00, 0x00, 0x00];
-        assert_eq!(printed(&input), "1 refused 7 0\n");
+    let (row, padding) = padded_row();
+    let with_bit = |bit: usize, after: usize| {
+        let mut input = row.clone();
+        *input.last_mut().expect("a row has bytes") |= 1 << bit;
+        input.resize(row.len() + after, 0);
+        input
+    };
+    for bit in 0..padding {
+        assert_eq!(printed(&with_bit(bit, 3)), "1 refused 7 0\n");
     }
-    // The lowest bit that still belongs to cell 22.
-    assert_printed(&[0x00, 0x00, 0x04, 0x00, 0x00, 0x00, 0x00]);
+    // The lowest bit that still belongs to the last cell.
+    assert_printed(&with_bit(padding, 4));
 }
 
 /// A full row cut off after each of its bytes names every cell in turn.
 #[test]
 fn a_row_cut_off_anywhere_names_the_lowest_cell_cut() {
     let mut whole = Vec::new();
-    inputs::append(&[Some(1); 22], &mut whole);
+    inputs::append(&[Some(1); CELLS], &mut whole);
     let mut named = BTreeSet::new();
     for length in 1..whole.len() {
         let text = printed(&whole[..length]);
@@ -181,7 +202,7 @@ fn a_row_cut_off_anywhere_names_the_lowest_cell_cut() {
         assert_eq!(refusal.number, 6);
         named.insert(refusal.cell);
     }
-    assert_eq!(named, (1..=22).collect());
+    assert_eq!(named, (1..=CELLS as u32).collect());
 }
 
 #[test]

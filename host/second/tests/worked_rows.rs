@@ -1,7 +1,7 @@
 //! Document 01's worked rows A to H, on the entries and on the second implementation, with every figure it gives.
 use lvl_addin::answer::Verdict;
 use lvl_addin::entry;
-use lvl_addin::row::{HostRow, ANSWER_BYTES, CELLS};
+use lvl_addin::row::{HostRow, ANSWER_BYTES, CELLS, PACKED_BYTES};
 use lvl_second::cells::*;
 use lvl_second::rows::bytes_of;
 use lvl_second::{Paper, Rules};
@@ -180,10 +180,10 @@ fn row_h_packs_to_three_zero_bytes() {
 #[test]
 fn packing_refuses_what_34_bits_do_not_hold() {
     let mut cells = [Some((1 << 34) - 1); CELLS];
-    let mut out = [0xFF; 97];
-    assert_eq!(Paper::pack(&cells, &mut out), Ok(97));
-    cells[4] = Some(1 << 34);
-    cells[20] = Some(u64::MAX);
+    let mut out = [0xFF; PACKED_BYTES];
+    assert_eq!(Paper::pack(&cells, &mut out), Ok(PACKED_BYTES));
+    cells[OFFICE_FACTOR - 1] = Some(1 << 34);
+    cells[KE - 1] = Some(u64::MAX);
     let refused = Paper::pack(&cells, &mut out[..2]).expect_err("the value is too great");
-    assert_eq!((refused.number, refused.cell), (4, 5));
+    assert_eq!((refused.number, refused.cell), (4, OFFICE_FACTOR as u32));
 }

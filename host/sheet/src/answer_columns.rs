@@ -1,4 +1,4 @@
-//! The sheet once more, with the answers in columns after cell 22.
+//! The sheet once more, with the answers in columns after the last cell.
 use crate::columns::Columns;
 use crate::fields::{self, Fields};
 use crate::lines::BYTE_ORDER_MARK;
@@ -26,7 +26,7 @@ impl<W: Write> AnswerColumns<W> {
         AnswerColumns { output }
     }
 
-    /// The fields up to cell 22, the answers below their headings, and what stood further right.
+    /// The fields up to the last cell, the answers below their headings, and what stood further right.
     fn write<'a>(
         &mut self,
         columns: &Columns,

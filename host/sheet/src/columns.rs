@@ -11,7 +11,7 @@ pub struct Columns {
     pub separator: u8,
     /// Whether the members' names stand before cell 1.
     pub named: bool,
-    /// Whether the answers of an earlier run stand after cell 22.
+    /// Whether the answers of an earlier run stand after the last cell.
     pub answered: bool,
     /// Whether the file begins with a byte order mark.
     pub marked: bool,
@@ -47,7 +47,7 @@ impl Columns {
         usize::from(self.named)
     }
 
-    /// How many columns there are up to cell 22.
+    /// How many columns there are up to the last cell.
     pub fn to_last_cell(&self) -> usize {
         self.before_cells() + CELLS
     }
@@ -61,7 +61,8 @@ impl Columns {
         }
     }
 
-    /// The fields of a line up to cell 22, as many as there are, and those after it, without an earlier run's answers.
+    /// The fields of a line up to the last cell, as many as there are, and those after it, without an earlier run's
+    /// answers.
     pub fn split<'a>(&self, line: &'a [u8]) -> (Vec<Cow<'a, [u8]>>, Fields<'a>) {
         let mut rest = Fields::of(line, self.separator);
         let fields = rest.by_ref().take(self.to_last_cell()).collect();

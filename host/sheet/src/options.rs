@@ -3,6 +3,7 @@ use std::ffi::OsString;
 use std::path::PathBuf;
 
 use crate::words;
+use lvl_addin::row::CELLS;
 
 pub enum Command {
     Help,
@@ -55,6 +56,7 @@ pub fn help() -> String {
         })
         .collect();
     HELP.replace("{cells}\n", &cells)
+        .replace("{last}", &CELLS.to_string())
 }
 
 const HELP: &str = "\
@@ -63,7 +65,7 @@ Checks LVL members and steel dowel joints to SP 64.13330, one member a row.
 usage: sheet [--csv] FILE.csv
        sheet [--csv] -            reads standard input
 
-  --csv     writes the sheet itself, with the answers in columns after cell 22,
+  --csv     writes the sheet itself, with the answers in columns after cell {last},
             in place of the table; the count of rows goes to the error output
   --help    this text
 
@@ -71,7 +73,7 @@ The sheet. A line is a row; quotes do not reach across lines. Fields are
 separated by commas, semicolons or tabs, whichever the first line has most of.
 The first line is the header, unless a field after the first is a number. The
 first column has the members' names, unless it is headed \"kind\". Then follow
-the 22 cells in this order; columns missing at the end are blank cells:
+the {last} cells in this order; columns missing at the end are blank cells:
 
 {cells}
 
@@ -83,7 +85,7 @@ Numbers may have a decimal point, spaces between thousands and an exponent; a
 decimal comma too, where fields are not separated by commas. There, 20,000 and
 20.000 are refused, since both 20 and 20000 may be meant. All cells have to be
 whole numbers. What is not a number is shown to the add-in as such, and refused.
-A row with anything in a column past cell 22 is refused; the answers of an
+A row with anything in a column past cell {last} is refused; the answers of an
 earlier --csv are no such columns: they are written anew.
 
 The table. Utilisation is rounded up to a tenth of a percent, so that a pass is at

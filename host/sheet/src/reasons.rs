@@ -4,6 +4,7 @@ use crate::row::SheetRow;
 use crate::text::shown;
 use crate::words;
 use lvl_addin::answer::Refusal;
+use lvl_addin::row::CELLS;
 
 /// The greatest number that a cell can hold.
 const GREATEST: f64 = 17_179_869_183.0;
@@ -29,12 +30,13 @@ pub fn refusal(refusal: Refusal, row: &SheetRow) -> String {
     format!("cell {number} {}: {reason}", words.name)
 }
 
-/// For a row that goes on past cell 22.
+/// For a row that goes on past the last cell.
 pub fn extra_column(row: &SheetRow) -> String {
     match row.extra_column() {
         Some((column, field)) => {
             let text = shown(&String::from_utf8_lossy(&field), QUOTED);
-            format!("column {column}: \"{text}\" stands past the last cell, 22 km")
+            let last = words::cell_words(CELLS).map_or("", |words| words.name);
+            format!("column {column}: \"{text}\" stands past the last cell, {CELLS} {last}")
         }
         None => "no column past the last cell is filled".to_owned(),
     }
@@ -55,7 +57,9 @@ fn misfilled(number: usize, row: &SheetRow) -> String {
     let kind = row.cell(1).whole();
     match (row.cell(number), kind) {
         (Typed::Blank, None) => "blank".to_owned(),
-        (Typed::Blank, Some(_)) if number >= 14 => "blank, but a joint is begun".to_owned(),
+        (Typed::Blank, Some(_)) if words::JOINT.contains(&number) => {
+            "blank, but a joint is begun".to_owned()
+        }
         (Typed::Blank, Some(kind)) => format!("blank, but kind {kind} needs it"),
         (_, Some(kind)) => format!("filled, but not for kind {kind}"),
         (_, None) => "filled".to_owned(),

@@ -11,9 +11,9 @@ use std::borrow::Cow;
 pub struct SheetRow<'a> {
     /// The line's number in the file, from 1.
     pub line: u64,
-    /// The fields up to cell 22, as many as there are.
+    /// The fields up to the last cell, as many as there are.
     pub fields: Vec<Cow<'a, [u8]>>,
-    /// The fields after cell 22, without an earlier run's answers.
+    /// The fields after the last cell, without an earlier run's answers.
     pub extra: Fields<'a>,
     pub cells: [Typed; CELLS],
     pub columns: &'a Columns,
@@ -24,7 +24,7 @@ pub struct SheetRow<'a> {
 pub enum Outcome {
     Judged(Verdict),
     Refused(Refusal),
-    /// Not shown to the add-in: a column past cell 22 is filled.
+    /// Not shown to the add-in: a column past the last cell is filled.
     ExtraColumn,
 }
 
@@ -45,7 +45,7 @@ impl<'a> SheetRow<'a> {
         }
     }
 
-    /// The add-in's answer, unless a field past cell 22 makes it unclear which cells are meant.
+    /// The add-in's answer, unless a field past the last cell makes it unclear which cells are meant.
     pub fn judged(&self) -> Outcome {
         if self.extra_column().is_some() {
             return Outcome::ExtraColumn;
@@ -56,7 +56,7 @@ impl<'a> SheetRow<'a> {
         }
     }
 
-    /// The first filled column past cell 22: its number in the file, from 1, and its content.
+    /// The first filled column past the last cell: its number in the file, from 1, and its content.
     pub fn extra_column(&self) -> Option<(usize, Cow<'a, [u8]>)> {
         let first = self.columns.to_last_cell() + self.columns.answers() + 1;
         let mut numbered = (first..).zip(self.extra.clone());

@@ -1,5 +1,11 @@
 //! What a reader sees in place of numbers: kinds, cells, checks and their clauses. Nothing is judged by it.
 
+use lvl_addin::row;
+use std::ops::RangeInclusive;
+
+/// The cells of a joint: side piece a to km.
+pub const JOINT: RangeInclusive<usize> = 14..=22;
+
 /// A cell of the row as a drafter knows it.
 pub struct CellWords {
     pub name: &'static str,
@@ -12,7 +18,7 @@ const fn cell(name: &'static str, unit: &'static str, range: &'static str) -> Ce
     CellWords { name, unit, range }
 }
 
-const CELLS: [CellWords; lvl_addin::row::CELLS] = [
+const CELLS: [CellWords; row::CELLS] = [
     cell("kind", "", "1 to 5"),
     cell("grade", "", "1 to 3"),
     cell("regime", "", "1 to 11 without 9"),
@@ -41,7 +47,7 @@ const CELLS: [CellWords; lvl_addin::row::CELLS] = [
     cell("km", "hundredths of N/mm²", "100 to 5000"),
 ];
 
-/// The words for cell 1 to 22.
+/// The words for a cell by its number, from 1.
 pub fn cell_words(number: usize) -> Option<&'static CellWords> {
     CELLS.get(number.checked_sub(1)?)
 }

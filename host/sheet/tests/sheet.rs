@@ -1,6 +1,7 @@
 //! The sheet command on a hall roof and on whatever else people paste: always a verdict, a refusal or a clear message.
 use lvl_addin::answer::{Refusal, Verdict};
 use lvl_addin::entry;
+use lvl_addin::row::{HostRow, CELLS};
 use lvl_sheet::number::{read, DecimalMark, Typed};
 use lvl_sheet::words;
 use std::io::{Read, Write};
@@ -13,6 +14,12 @@ const HEADER: &str =
 const ROW_A: &str = "A,2,1,3,10,1000,75,300,,20000000,20000";
 const ROW_B: &str = "B,3,3,2,13,1000,100,200,50000,,,3000,2000,1";
 const ROW_E: &str = "E,1,2,4,12,1000,100,200,100000,,,3000,3000,5,50,12,3,840,500,800,1800,20,2500";
+
+/// The cells of a line as far as they are given, and blank ones to the last.
+fn to_last_cell(given: &str, separator: char) -> String {
+    let missing = CELLS - given.split(separator).count();
+    given.to_owned() + &separator.to_string().repeat(missing)
+}
 
 /// What a run left behind.
 struct Run {
@@ -428,10 +435,13 @@ fn missing_and_extra_columns() {
         .line("T1 ")
         .ends_with("cell 5 office factor: blank, but kind 2 needs it"));
     assert_eq!(table_of(&[&format!("{ROW_E},,, ,")]).code, 0);
-    let run = table_of(&[&format!("{ROW_E},,remark"), ROW_A]);
-    assert!(run
-        .line("E ")
-        .ends_with("column 25: \"remark\" stands past the last cell, 22 km"));
+    let whole = to_last_cell(&ROW_E[2..], ',');
+    let run = table_of(&[&format!("E,{whole},,remark"), ROW_A]);
+    let last = words::cell_words(CELLS).unwrap().name;
+    let column = 1 + CELLS + 2;
+    assert!(run.line("E ").ends_with(&format!(
+        "column {column}: \"remark\" stands past the last cell, {CELLS} {last}"
+    )));
     assert_eq!(run.summary(), "2 rows: 1 passed, 0 failed, 1 refused");
 }
 
@@ -686,28 +696,39 @@ fn expected(row: &str) -> [String; 6] {
         .unwrap()
 }
 
-/// The cells of a row that has a name and all of them.
-fn cells_of(row: &str) -> [Option<f64>; 22] {
+/// The cells of a row after its name, which may be in quotes.
+fn cells_of(row: &str) -> HostRow {
+    let quoted = row.strip_prefix('"').map(|name| name.split_once("\","));
+    let (_, given) = quoted.unwrap_or(row.split_once(',')).unwrap();
     let cell = |text: &str| (!text.is_empty()).then(|| text.parse().unwrap_or(f64::NAN));
-    let mut cells: Vec<Option<f64>> = row.rsplit(',').take(22).map(cell).collect();
-    cells.reverse();
-    cells.try_into().unwrap()
+    let mut cells = [None; CELLS];
+    for (to, text) in cells.iter_mut().zip(given.split(',')) {
+        *to = cell(text);
+    }
+    cells
 }
 
 #[test]
 fn answer_columns_read_again_give_the_same() {
-    let odd = "\u{feff}имя;kind\n\"A; \"\"left\"\"\";2;1;3;10,0;1 000;75;300;;2E+07;20000\n;;\nB;2;x\nC;2;1;3;10;1000;75;300;;20000000;20000;;;;;;;;;;;;;odd\nbare";
-    for content in [hall_roof().as_str(), odd, ROW_A, &ROW_A[2..], ROW_E] {
+    let a = "2;1;3;10,0;1 000;75;300;;2E+07;20000";
+    let c = to_last_cell("2;1;3;10;1000;75;300;;20000000;20000", ';');
+    let odd = format!("\u{feff}имя;kind\n\"A; \"\"left\"\"\";{a}\n;;\nB;2;x\nC;{c};odd\nbare");
+    for content in [hall_roof().as_str(), &odd, ROW_A, &ROW_A[2..], ROW_E] {
         let once = csv(content);
         let again = csv(&once.out);
         assert_eq!(once.out, again.out);
         assert_eq!((once.code, &once.err), (again.code, &again.err));
     }
-    let out = csv(odd).out;
+    let out = csv(&odd).out;
     assert!(out.starts_with("\u{feff}имя;kind;"));
-    assert!(out.contains("\n\"A; \"\"left\"\"\";2;1;3;10,0;1 000;75;300;;2E+07;20000;;;;;;;;;;;;;pass;7;690668;0;;\n;;\n"));
-    assert!(out.contains("\nB;2;x;;;;;;;;;;;;;;;;;;;;;refused;;;;1;2\n"));
-    assert!(out.contains(";20000;;;;;;;;;;;;;refused;;;;extra column;;odd\n"));
+    let [a, b] = [a, "2;x"].map(|given| to_last_cell(given, ';'));
+    for part in [
+        format!("\n\"A; \"\"left\"\"\";{a};pass;7;690668;0;;\n;;\n"),
+        format!("\nB;{b};refused;;;;1;2\n"),
+        format!("\nC;{c};refused;;;;extra column;;odd\n"),
+    ] {
+        assert!(out.contains(&part), "{part}");
+    }
 }
 
 #[test]
@@ -724,8 +745,9 @@ fn answer_columns_keep_bytes_of_other_encodings() {
 #[test]
 fn ranges_in_words_are_the_addins() {
     let e = cells_of(ROW_E);
-    let strut = cells_of("S,4,1,1,10,1000,100,300,50000,40000000,20000,3000,2000,2,,,,,,,,,");
-    for cell in (4..=12).chain(14..=22) {
+    let strut = cells_of("S,4,1,1,10,1000,100,300,50000,40000000,20000,3000,2000,2");
+    let is_code = |cell: &usize| matches!(cell, 1..=3 | 13);
+    for cell in (1..=CELLS).filter(|cell| !is_code(cell)) {
         let row = if matches!(cell, 9 | 10) { strut } else { e };
         let (least, most) = words::cell_words(cell)
             .unwrap()

@@ -54,11 +54,11 @@ pub fn long(random: &mut Random, beyond: usize) -> Vec<u8> {
     while input.len() + 2 * PACKED_BYTES < end {
         append_any(random, &mut input);
     }
-    // Blank rows have 3 bytes and those with one filled cell 7: together they reach every end.
+    // Blank rows have 3 bytes and those with one filled cell 7, without a common divisor: together they reach every end.
     let blank = [None; CELLS];
     let mut one_filled = blank;
     one_filled[CELLS - 1] = Some(1);
-    while !(end - input.len()).is_multiple_of(3) {
+    while !(end - input.len()).is_multiple_of(Paper::packed_length(&blank)) {
         append(&one_filled, &mut input);
     }
     while input.len() < end {
@@ -83,10 +83,13 @@ fn append_any(random: &mut Random, input: &mut Vec<u8>) {
     append(&cells, input);
 }
 
-/// Appends a row of kind 3, which has 4 padding bits, with one of them set.
+/// Appends a row of kind 3, which has padding bits, with one of them set.
 fn append_spoilt(random: &mut Random, input: &mut Vec<u8>) {
-    append(&judged::row(random, 3, false), input);
+    let cells = judged::row(random, 3, false);
+    append(&cells, input);
+    let bits: u32 = cells.iter().map(|&cell| Paper::cell_bits(cell).1).sum();
+    let padding = bits.next_multiple_of(8) - bits;
     if let Some(last) = input.last_mut() {
-        *last |= 1 << random.below(4);
+        *last |= 1 << random.below(padding.into());
     }
 }

@@ -11,10 +11,12 @@ use crate::{Cells, Paper, Rules};
 use lvl_addin::row::{host_bytes, HostRow, ANSWER_BYTES, CELLS, PACKED_BYTES, ROW_BYTES};
 use random::Random;
 
-/// The longest row, answer and buffer that a case has.
-pub const LONGEST_ROW: usize = 220;
-pub const LONGEST_ANSWER: usize = 48;
-pub const LONGEST_SPACE: usize = 110;
+/// The longest row, answer and buffer that a case has. Each goes beyond the right length, so that what is too long is
+/// tried as well as what is too short: a row with a byte more for each cell, an answer of twice its bytes, and a
+/// buffer as long as if every packed cell took whole bytes.
+pub const LONGEST_ROW: usize = ROW_BYTES + CELLS;
+pub const LONGEST_ANSWER: usize = 2 * ANSWER_BYTES;
+pub const LONGEST_SPACE: usize = PACKED_BYTES.next_multiple_of(CELLS);
 
 /// One call of each entry.
 #[derive(Clone)]

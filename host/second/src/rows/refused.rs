@@ -67,9 +67,9 @@ fn in_range(random: &mut Random, number: usize) -> u64 {
 
 /// Fills one or some of the joint's cells and blanks the others.
 fn begin_joint(random: &mut Random, cells: &mut Cells) {
-    let only = random.between(FIRST_OF_JOINT as u64, CELLS as u64) as usize;
+    let only = random.between(FIRST_OF_JOINT as u64, LAST_OF_JOINT as u64) as usize;
     let others = random.pick(&[1, 2, 5]);
-    for number in FIRST_OF_JOINT..=CELLS {
+    for number in FIRST_OF_JOINT..=LAST_OF_JOINT {
         let filled = number == only || !random.one_in(others);
         cells[number - 1] = filled.then(|| in_range(random, number));
     }

@@ -1,5 +1,6 @@
 //! Wrong copies of the refusals and their order.
 use lvl_addin::answer::Refusal;
+use lvl_addin::row::CELLS;
 use lvl_second::cells::*;
 use lvl_second::{Paper, Rules};
 
@@ -13,7 +14,7 @@ fn refusal(number: u32, cell: usize) -> Refusal {
 /// The cells that are blank or filled against their kind.
 fn misfilled(kind: Kind, cells: &Cells) -> impl Iterator<Item = usize> + '_ {
     let begun = Paper::joint_begun(kind, cells);
-    (1..=22).filter(move |&number| {
+    (1..=CELLS).filter(move |&number| {
         cell(cells, number).is_some() != Paper::must_be_filled(kind, number, begun)
     })
 }
@@ -115,7 +116,7 @@ wrong_copies! { checking:
     }
     MisfilledJointFirst {
         fn refuse_misfilled(kind: Kind, cells: &Cells) -> Result<(), Refusal> {
-            refuse(misfilled(kind, cells).find(|&number| number >= FIRST_OF_JOINT))?;
+            refuse(misfilled(kind, cells).find(|number| (FIRST_OF_JOINT..=LAST_OF_JOINT).contains(number)))?;
             Paper::refuse_misfilled(kind, cells)
         }
     }
@@ -137,7 +138,7 @@ wrong_copies! { checking:
     }
     JointOnlyWhenWhole {
         fn joint_begun(kind: Kind, cells: &Cells) -> bool {
-            Paper::joint_begun(kind, cells) && (FIRST_OF_JOINT..=KM).all(|number| cell(cells, number).is_some())
+            Paper::joint_begun(kind, cells) && (FIRST_OF_JOINT..=LAST_OF_JOINT).all(|number| cell(cells, number).is_some())
         }
     }
     JointAlwaysInTies {

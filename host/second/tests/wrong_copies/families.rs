@@ -3,6 +3,7 @@
 //! A family is one type, whose slip is set before it is used.
 use crate::evidence::{checking, Wrong};
 use lvl_addin::answer::{Refusal, Verdict};
+use lvl_addin::row::CELLS;
 use lvl_second::cells::*;
 use lvl_second::{Paper, Rules};
 use std::cell::Cell;
@@ -286,7 +287,7 @@ fn figures() -> Vec<Wrong> {
 
 fn range_ends() -> Vec<Wrong> {
     let mut copies = Vec::new();
-    for number in 1..=22 {
+    for number in 1..=CELLS {
         let Some(range) = Paper::range(number) else {
             continue;
         };
@@ -373,7 +374,7 @@ fn codes() -> Vec<Wrong> {
 fn fills() -> Vec<Wrong> {
     let mut copies = Vec::new();
     for kind in 1..=5 {
-        for cell in 2..=22 {
+        for cell in 2..=CELLS as u64 {
             copies.push(slip::<FillTurned>(
                 format!("fill of cell {cell} turned in kind {kind}"),
                 kind,

@@ -1,6 +1,6 @@
 //! Wrong copies of reading the host's row and of answering.
 use lvl_addin::answer::{Refusal, Verdict};
-use lvl_addin::row::ANSWER_BYTES;
+use lvl_addin::row::{ANSWER_BYTES, CELLS, ROW_BYTES};
 use lvl_second::{Cells, Paper, Rules};
 
 /// Reads a row as document 01 does, once its bytes are changed.
@@ -150,7 +150,7 @@ wrong_copies! { checking:
             let read = Paper::read_row(row);
             let other = |cell: &[u8]| cell[0] > 1;
             match row.chunks_exact(9).position(other) {
-                Some(at) if row.len() == 198 => Err(Refusal { number: 1, cell: at as u32 + 1 }),
+                Some(at) if row.len() == ROW_BYTES => Err(Refusal { number: 1, cell: at as u32 + 1 }),
                 _ => read,
             }
         }
@@ -167,7 +167,7 @@ wrong_copies! { checking:
                 Paper::read_cell(cell[0], bits).is_none()
             };
             match row.chunks_exact(9).rposition(unreadable) {
-                Some(at) if row.len() == 198 => Err(Refusal { number: 1, cell: at as u32 + 1 }),
+                Some(at) if row.len() == ROW_BYTES => Err(Refusal { number: 1, cell: at as u32 + 1 }),
                 _ => Paper::read_row(row),
             }
         }
@@ -179,24 +179,24 @@ wrong_copies! { checking:
     }
     LongerRowAccepted {
         fn read_row(row: &[u8]) -> Result<Cells, Refusal> {
-            Paper::read_row(&row[..row.len().min(198)])
+            Paper::read_row(&row[..row.len().min(ROW_BYTES)])
         }
     }
     RowOneShortAccepted {
         fn read_row(row: &[u8]) -> Result<Cells, Refusal> {
-            if row.len() == 197 { Paper::read_row(&[row, &[0]].concat()) } else { Paper::read_row(row) }
+            if row.len() == ROW_BYTES - 1 { Paper::read_row(&[row, &[0]].concat()) } else { Paper::read_row(row) }
         }
     }
     ShortRowNamesItsFirstMissingCell {
         fn read_row(row: &[u8]) -> Result<Cells, Refusal> {
-            let short = row.len() < 198;
+            let short = row.len() < ROW_BYTES;
             let missing = row.len() as u32 / 9 + 1;
             Paper::read_row(row).map_err(|found| Refusal { cell: if short { missing } else { found.cell }, ..found })
         }
     }
     EmptyRowAsBlank {
         fn read_row(row: &[u8]) -> Result<Cells, Refusal> {
-            if row.is_empty() { Ok([None; 22]) } else { Paper::read_row(row) }
+            if row.is_empty() { Ok([None; CELLS]) } else { Paper::read_row(row) }
         }
     }
     AnswerHighestByteFirst {

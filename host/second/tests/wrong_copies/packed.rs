@@ -1,6 +1,6 @@
 //! Wrong copies of packing.
 use lvl_addin::answer::Refusal;
-use lvl_addin::row::CELLS;
+use lvl_addin::row::{CELLS, PACKED_BYTES};
 use lvl_second::{Cells, Paper};
 
 /// The bits of a packed cell, its value in this width.
@@ -121,17 +121,17 @@ wrong_copies! { packing:
     }
     SpaceForTheLongestDemanded {
         fn pack(cells: &Cells, out: &mut [u8]) -> Result<usize, Refusal> {
-            if out.len() < 97 { Err(Refusal { number: 5, cell: 0 }) } else { Paper::pack(cells, out) }
+            if out.len() < PACKED_BYTES { Err(Refusal { number: 5, cell: 0 }) } else { Paper::pack(cells, out) }
         }
     }
     SpaceBeforeTheRow {
         fn pack_bytes(row: &[u8], out: &mut [u8]) -> u64 {
-            if out.len() < 3 { 5000 } else { Paper::pack_bytes(row, out) }
+            if out.len() < CELLS.div_ceil(8) { 5000 } else { Paper::pack_bytes(row, out) }
         }
     }
     TooLittleSpaceFilled {
         fn pack(cells: &Cells, out: &mut [u8]) -> Result<usize, Refusal> {
-            let mut whole = [0; 97];
+            let mut whole = [0; PACKED_BYTES];
             Paper::pack(cells, &mut whole)?;
             let held = out.len().min(Paper::packed_length(cells));
             out[..held].copy_from_slice(&whole[..held]);

@@ -1,5 +1,6 @@
 //! Wrong copies of unpacking and of the program `schedule`.
 use lvl_addin::answer::{Refusal, Verdict};
+use lvl_addin::row::CELLS;
 use lvl_second::packing::Bits;
 use lvl_second::{Cells, Paper};
 
@@ -94,7 +95,7 @@ wrong_copies! { scheduling:
     PaddingNamesTheLastCell {
         fn unpack(input: &[u8]) -> Result<(Cells, usize), Refusal> {
             Paper::unpack(input).map_err(|found| match found.number {
-                7 => Refusal { cell: 22, ..found },
+                7 => Refusal { cell: CELLS as u32, ..found },
                 _ => found,
             })
         }
