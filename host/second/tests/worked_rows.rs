@@ -4,78 +4,8 @@ use lvl_addin::entry;
 use lvl_addin::row::{HostRow, ANSWER_BYTES, CELLS, PACKED_BYTES};
 use lvl_second::cells::*;
 use lvl_second::rows::bytes_of;
+use lvl_second::rows::worked::{a, b, e, with};
 use lvl_second::{Paper, Rules};
-
-/// A row with these cells filled.
-fn row(filled: &[(usize, u64)]) -> Cells {
-    let mut cells = [None; CELLS];
-    for &(number, value) in filled {
-        cells[number - 1] = Some(value);
-    }
-    cells
-}
-
-/// A row with one cell changed.
-fn with(cells: Cells, number: usize, value: u64) -> Cells {
-    let mut changed = cells;
-    changed[number - 1] = Some(value);
-    changed
-}
-
-fn a() -> Cells {
-    row(&[
-        (KIND, 2),
-        (GRADE, 1),
-        (REGIME, 3),
-        (MOISTURE, 10),
-        (OFFICE_FACTOR, 1000),
-        (WIDTH, 75),
-        (HEIGHT, 300),
-        (MOMENT, 20_000_000),
-        (SHEAR, 20_000),
-    ])
-}
-
-fn b() -> Cells {
-    row(&[
-        (KIND, 3),
-        (GRADE, 3),
-        (REGIME, 2),
-        (MOISTURE, 13),
-        (OFFICE_FACTOR, 1000),
-        (WIDTH, 100),
-        (HEIGHT, 200),
-        (AXIAL, 50_000),
-        (LENGTH_H, 3000),
-        (LENGTH_B, 2000),
-        (TABLE_16_ROW, 1),
-    ])
-}
-
-fn e() -> Cells {
-    row(&[
-        (KIND, 1),
-        (GRADE, 2),
-        (REGIME, 4),
-        (MOISTURE, 12),
-        (OFFICE_FACTOR, 1000),
-        (WIDTH, 100),
-        (HEIGHT, 200),
-        (AXIAL, 100_000),
-        (LENGTH_H, 3000),
-        (LENGTH_B, 3000),
-        (TABLE_16_ROW, 5),
-        (SIDE_THICKNESS, 50),
-        (DIAMETER, 12),
-        (DOWELS_ACROSS, 3),
-        (JOINT_LENGTH, 840),
-        (KC, 500),
-        (KA, 800),
-        (KB, 1800),
-        (KE, 20),
-        (KM, 2500),
-    ])
-}
 
 /// Holds both implementations to a verdict.
 fn assert_verdict(cells: &Cells, passes: bool, check: u32, utilisation: u32, count: u32) {

@@ -6,6 +6,7 @@ pub mod inputs;
 pub mod judged;
 pub mod random;
 pub mod refused;
+pub mod worked;
 
 use crate::{Cells, Paper, Rules};
 use lvl_addin::row::{host_bytes, HostRow, ANSWER_BYTES, CELLS, PACKED_BYTES, ROW_BYTES};
