@@ -1,0 +1,83 @@
+//! The command line, standard input and output, and what cannot be judged.
+use crate::common::{command, run, table, Run, Scratch, HEADER, ROW_A};
+use std::io::{Read, Write};
+use std::process::Stdio;
+
+#[test]
+fn nothing_to_judge() {
+    for content in ["", "\n\n", HEADER, "\u{feff}", ",,,,\n;;;\n"] {
+        let run = table(content);
+        assert_eq!((run.code, run.out.as_str()), (2, ""));
+        assert!(run.err.ends_with("there are no rows\n"), "{}", run.err);
+    }
+    for (arguments, message) in [
+        (
+            &["no-such-sheet.csv"][..],
+            "sheet: no-such-sheet.csv: No such file",
+        ),
+        (&[env!("CARGO_MANIFEST_DIR")], "Is a directory"),
+        (&["-"], "sheet: standard input: there are no rows"),
+        (&[], "usage: sheet"),
+        (&["--cvs", "a.csv"], "there is no option --cvs"),
+        (&["a.csv", "b.csv"], "one sheet at a time"),
+    ] {
+        let run = run(arguments);
+        assert_eq!((run.code, run.out.as_str()), (2, ""));
+        assert!(run.err.contains(message), "{}", run.err);
+    }
+}
+
+#[test]
+fn help_names_every_cell_and_exit_code() {
+    let run = run(&["--help"]);
+    assert_eq!((run.code, run.err.as_str()), (0, ""));
+    for part in [
+        "moment M",
+        "  22  km",
+        "--csv",
+        "Exit code: 0 every row passes; 1 ",
+        "earlier --csv",
+    ] {
+        assert!(run.out.contains(part), "{part}");
+    }
+}
+
+#[test]
+fn standard_input_and_a_reader_that_leaves() {
+    let mut child = command()
+        .arg("-")
+        .stdin(Stdio::piped())
+        .stdout(Stdio::piped())
+        .stderr(Stdio::piped())
+        .spawn()
+        .unwrap();
+    child
+        .stdin
+        .take()
+        .unwrap()
+        .write_all(format!("{HEADER}\n{ROW_A}\n").as_bytes())
+        .unwrap();
+    assert!(Run::of(child.wait_with_output().unwrap())
+        .line("A ")
+        .contains("69.1"));
+
+    let long =
+        Scratch::new(format!("{HEADER}\n{}", format!("{ROW_A}\n").repeat(20_000)).as_bytes());
+    for options in [&[][..], &["--csv"]] {
+        let mut child = command()
+            .args(options)
+            .arg(&long.0)
+            .stdout(Stdio::piped())
+            .stderr(Stdio::piped())
+            .spawn()
+            .unwrap();
+        child
+            .stdout
+            .take()
+            .unwrap()
+            .read_exact(&mut [0; 10])
+            .unwrap();
+        let run = Run::of(child.wait_with_output().unwrap());
+        assert_eq!((run.code, run.err.as_str()), (2, ""));
+    }
+}

@@ -1,0 +1,70 @@
+//! Giant lines, many rows and random bytes.
+use crate::common::{hall_roof, table, Scratch, HEADER, ROW_A, ROW_B, ROW_E};
+
+#[test]
+fn a_giant_line() {
+    const SIZE: usize = 10_000_000;
+    for filler in ["x", "7", ",", "\"", ";\"", "\u{1F4A9}", "1,"] {
+        let giant = filler.repeat(SIZE / filler.len());
+        let run = table(format!("{HEADER}\n{ROW_A}\nG,{giant}\n{ROW_B}\n"));
+        assert_eq!(
+            run.summary(),
+            "3 rows: 2 passed, 0 failed, 1 refused",
+            "{filler}"
+        );
+        assert!(run.out.len() < 2000, "{filler}");
+        table(&giant);
+    }
+}
+
+#[test]
+fn a_hundred_thousand_rows() {
+    let sheet = hall_roof();
+    let rows: Vec<&str> = sheet.lines().skip(1).collect();
+    let mut long = String::from(sheet.lines().next().unwrap());
+    for row in rows.iter().cycle().take(100_000) {
+        long.push('\n');
+        long.push_str(row);
+    }
+    let run = table(&long);
+    assert_eq!(
+        run.summary(),
+        "100000 rows: 67746 passed, 20969 failed, 11285 refused"
+    );
+    assert_eq!(run.err, "", "no progress where nobody watches");
+}
+
+#[test]
+fn random_bytes() {
+    const LIKELY: &[u8] = b",,,;;\t\"\"\n\n\r 0123456789012345678901234.-+eEkind\0\xFF\xD0";
+    let mut state = 0x9E37_79B9_7F4A_7C15_u64;
+    let mut draw = |below: usize| {
+        state ^= state << 13;
+        state ^= state >> 7;
+        state ^= state << 17;
+        (state >> 11) as usize % below
+    };
+    for round in 0..300 {
+        let length = draw(3000);
+        let mut content: Vec<u8> = match round % 3 {
+            0 => Vec::new(),
+            1 => format!("{HEADER}\n").into_bytes(),
+            _ => format!("{HEADER}\n{ROW_A}\n{ROW_B}\n{ROW_E}\n").into_bytes(),
+        };
+        for _ in 0..length {
+            let byte = if round % 2 == 0 {
+                draw(256) as u8
+            } else {
+                LIKELY[draw(LIKELY.len())]
+            };
+            content.push(byte);
+        }
+        let file = Scratch::new(&content);
+        let run = file.run(&[]);
+        assert!(
+            run.code == 2 && !run.err.is_empty() || run.summary().contains(" passed, "),
+            "{content:?}"
+        );
+        assert_eq!(file.run(&["--csv"]).code, run.code);
+    }
+}

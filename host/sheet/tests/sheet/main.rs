@@ -1,0 +1,12 @@
+//! The sheet command on a hall roof and on whatever else people paste: always a verdict, a refusal or a clear message.
+
+mod common;
+
+mod answer_columns;
+mod columns;
+mod command_line;
+mod encodings;
+mod large_and_broken;
+mod numbers;
+mod reasons;
+mod verdicts;
