@@ -12,7 +12,7 @@ ghost use Rattle.cells.specs.Refusal.{resultOf};
 ghost use Rattle.worksheet.specs.HostAnswer.{floatsResult, floatsBuffer, NoNans};
 
 // A whole number as a float. Up to 2^53 nothing is lost.
-pub fn float_of(n: u64) -> f64
+pub fn whole_float(n: u64) -> f64
     requires { ⌜ n ≤ 2 ^ 53 ⌝ }
     ensures { λ r. ⌜ (r ≡ wholeFloat n) × T (not (isNan r)) ⌝ }
 {

@@ -19,7 +19,7 @@ use Rattle.packed.specs.Bits.{bits, bitsOf}
 use Rattle.packed.specs.Unpacking.{before, parse}
 use Rattle.codec.specs.Place.{left, leftAt, TookIn, Reads}
 use Rattle.codec.specs.declared.cursor.Cursor.{Cursor}
-use Rattle.codec.specs.declared.reader.Step.the-variants.{Read, Ends}
+use Rattle.codec.specs.declared.reader.NextCell.the-variants.{Read, Ends}
 use Rattle.packed.proofs.BitLaws.{bits-apart, bits-mod, bits-append, length-bits, number-bits, masked}
 
 -- a byte is taken in: the same bits are left

@@ -19,10 +19,10 @@ use Rattle.cells.specs.declared.row.Cell.the-variants.{Blank}
 use Rattle.cells.specs.declared.row.Slot.{Slot}
 use Rattle.packed.specs.Bits.{bits, number, bitsOf}
 use Rattle.packed.specs.Unpacking.{before, parse, anySet, padding, ending, unpacked, filledUp, held}
-use Rattle.codec.specs.Answers.{refusedRow}
+use Rattle.codec.specs.Answers.{refusedUnpacking}
 use Rattle.codec.specs.Place.{start, left, leftAt, Reached, Reads}
 use Rattle.codec.specs.declared.cursor.Cursor.{Cursor}
-use Rattle.codec.specs.declared.reader.Step.the-variants.{Read, Ends}
+use Rattle.codec.specs.declared.reader.NextCell.the-variants.{Read, Ends}
 use Rattle.codec.specs.declared.unpack.UnpackedRow.{UnpackedRow}
 use Rattle.packed.proofs.BitLaws.{bits-apart, bits-zero, length-bits, length-bitsOf, number-bits, number-zeros, number-nil}
 use Rattle.packed.proofs.ParseLaws.{none-set, all-zero}
@@ -201,7 +201,7 @@ module _ {bytes : List ℕ} {n i : ℕ} {slots : List Slot} {place : Cursor} (so
       (ap (λ (l : List Cell). gives (l, place .at - place .count / 8)) (take-at (so .cells) (blanks (cellCount - length (so .cells))) n e), refl)
 
 -- the answer that refuses
-pub refusal-answer : (n : ℕ) (bytes : List ℕ) (refusal : Refusal) (r : UnpackedRow) → r ≡ refusedRow refusal → unpacked n bytes ≡ refusedBy refusal
+pub refusal-answer : (n : ℕ) (bytes : List ℕ) (refusal : Refusal) (r : UnpackedRow) → r ≡ refusedUnpacking refusal → unpacked n bytes ≡ refusedBy refusal
     → (resultOf (r .outcome) (take n (cellsOf (r .row)), r .bytes) ≡ unpacked n bytes) × ((cellsOf (r .row), r .bytes) ≡ held (unpacked n bytes))
 refusal-answer n bytes refusal r e u = rw (e, u) (refl, refl)
 

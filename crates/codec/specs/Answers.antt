@@ -18,5 +18,5 @@ abbrev pub measureOf : List Cell → Measured
 measureOf cells = cond (eqb (lowestWide cells) 0) (Bits (length (rowBits cells))) (TooWide (lowestWide cells))
 
 -- an answer that refuses
-abbrev pub refusedRow : Refusal → UnpackedRow
-refusedRow refusal = record { outcome = Refused refusal; bytes = 0; row = blankRow }
+abbrev pub refusedUnpacking : Refusal → UnpackedRow
+refusedUnpacking refusal = record { outcome = Refused refusal; bytes = 0; row = blankRow }

@@ -9,8 +9,8 @@ use Rattle.cells.specs.Refusal.{refuses}
 use Rattle.packed.specs.Bits.{bits, bitsOf}
 use Rattle.packed.specs.Unpacking.{before, parse}
 use Rattle.codec.specs.declared.cursor.Cursor.{Cursor}
-use Rattle.codec.specs.declared.reader.Step.{Step}
-use Rattle.codec.specs.declared.reader.Step.the-variants.{Read, Ends}
+use Rattle.codec.specs.declared.reader.NextCell.{NextCell}
+use Rattle.codec.specs.declared.reader.NextCell.the-variants.{Read, Ends}
 
 -- the place before the first bit
 abbrev pub start : Cursor
@@ -54,7 +54,7 @@ pub record TookIn (bytes : List ℕ) (from to : Cursor) : Type 0 where
   pub full : to .count < 35 → to .at ≡ length bytes
 
 -- what a step says of every parse from a place on
-abbrev pub Reads : List ℕ → Cursor → Step → Type 0
+abbrev pub Reads : List ℕ → Cursor → NextCell → Type 0
 Reads bytes place (Read cell next) =
     ((n i : ℕ) → parse (suc n) i (leftAt bytes place) ≡ before cell (parse n (suc i) (leftAt bytes next))) × Reached bytes next
 Reads bytes place Ends = (n i : ℕ) → parse (suc n) i (leftAt bytes place) ≡ refuses 6 i

@@ -1,20 +1,14 @@
 // Reading cells from bits, the most significant first. Bytes are taken in until the cursor has a whole cell on hand.
 use crate::cursor::Cursor;
+use cells::bytes::byte_value;
 use cells::row::Cell;
-ghost use mathlib.Core.Path.{_≡_};
 ghost use Prim.Native.Nat.{_<_};
 ghost use Rattle.codec.specs.Place.{Reached, TookIn, Reads};
 
 // What stands at a place: a cell and the place after it, or the input's end.
-pub enum Step {
+pub enum NextCell {
     Read(Cell, Cursor),
     Ends,
-}
-
-fn wide(byte: u8) -> u64
-    ensures { λ r. ⌜ (r ≡ byte) × (r < 256) ⌝ }
-{
-    byte as u64
 }
 
 // Takes bytes in until 35 bits are on hand or the input ends.
@@ -29,7 +23,7 @@ fn take_in(bytes: &[u8], cursor: Cursor) -> Cursor
         if bytes.len() <= at {
             break;
         }
-        waiting = waiting * 256 + wide(bytes[at]);
+        waiting = waiting * 256 + byte_value(bytes[at]);
         count = count + 8;
         at = at + 1;
     }
@@ -41,7 +35,7 @@ fn take_in(bytes: &[u8], cursor: Cursor) -> Cursor
 }
 
 // Reads one cell.
-pub fn next_cell(bytes: &[u8], cursor: Cursor) -> Step
+pub fn next_cell(bytes: &[u8], cursor: Cursor) -> NextCell
     requires { ⌜ Reached (now bytes) cursor ⌝ }
     ensures { λ r. ⌜ Reads (now (bytes .entry)) cursor r ⌝ }
 {
@@ -50,11 +44,11 @@ pub fn next_cell(bytes: &[u8], cursor: Cursor) -> Step
     let count = full.count;
     let waiting = full.waiting;
     if count == 0 {
-        return Step::Ends;
+        return NextCell::Ends;
     }
     let after = count - 1;
     if waiting >> after == 0 {
-        return Step::Read(
+        return NextCell::Read(
             Cell::Blank,
             Cursor {
                 at: at,
@@ -64,10 +58,10 @@ pub fn next_cell(bytes: &[u8], cursor: Cursor) -> Step
         );
     }
     if count < 35 {
-        return Step::Ends;
+        return NextCell::Ends;
     }
     let left = count - 35;
-    Step::Read(
+    NextCell::Read(
         Cell::Whole((waiting >> left) - 0x4_0000_0000),
         Cursor {
             at: at,

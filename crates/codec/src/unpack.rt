@@ -1,6 +1,6 @@
 // Unpack a row: from lent bytes, or a refusal with a blank row.
 use crate::cursor::at_start;
-use crate::reader::Step;
+use crate::reader::NextCell;
 use crate::reader::next_cell;
 use cells::refusal::Outcome;
 use cells::refusal::Refusal;
@@ -17,7 +17,7 @@ ghost use Rattle.cells.specs.Refusal.{resultOf, valueOr};
 ghost use Rattle.cells.specs.declared.refusal.Outcome.the-variants.{Done};
 ghost use Rattle.packed.specs.Packing.{packed};
 ghost use Rattle.packed.specs.Unpacking.{unpacked, held};
-ghost use Rattle.codec.specs.Answers.{refusedRow};
+ghost use Rattle.codec.specs.Answers.{refusedUnpacking};
 
 // What unpacking answers: the row and the bytes it took; on a refusal a blank row and 0.
 pub struct UnpackedRow {
@@ -27,7 +27,7 @@ pub struct UnpackedRow {
 }
 
 fn refused(refusal: Refusal) -> UnpackedRow
-    ensures { λ r. ⌜ r ≡ refusedRow refusal ⌝ }
+    ensures { λ r. ⌜ r ≡ refusedUnpacking refusal ⌝ }
 {
     let row = blank_row();
     UnpackedRow {
@@ -50,10 +50,10 @@ pub fn unpack_cells(bytes: &[u8], n: usize) -> UnpackedRow
     while i < n {
         let step = next_cell(bytes, cursor);
         match step {
-            Step::Ends => {
+            NextCell::Ends => {
                 return refused(Refusal::CutOff((i + 1) as u32));
             }
-            Step::Read(cell, next) => {
+            NextCell::Read(cell, next) => {
                 slots[i] = Slot { cell };
                 cursor = next;
             }

@@ -4,7 +4,7 @@ use Prim.Native.Nat.{ℕ}
 use mathlib.Core.List.{List}
 use mathlib.Core.Path.{_≡_, refl}
 use lib.ListN.{length}
-use Rattle.worksheet.specs.HostAnswer.{answerResult, answerBuffer}
+use Rattle.worksheet.specs.HostAnswer.{answerRoomResult, answerBuffer}
 use Rattle.worksheet.specs.HostRow.{readHostRow}
 use Rattle.cells.specs.Refusal.{gives, refusedBy, refusalCode}
 use Rattle.cells.specs.declared.refusal.Refusal.{Refusal}
@@ -16,12 +16,12 @@ use Rattle.worksheet.specs.Entries.{passOrFail, verdictReturns, verdictLeaves, 
 
 -- a verdict in an answer of another length, and of the right one
 module _ (verdict : Verdict) (answer : List ℕ) where
-  pub answer-refused : (refusal : Refusal) → answerResult (length answer) ≡ refusedBy refusal
+  pub answer-refused : (refusal : Refusal) → answerRoomResult (length answer) ≡ refusedBy refusal
       → (refusalCode refusal ≡ verdictReturns (length answer) verdict)
       × (answerBuffer (verdict .utilisation) (verdict .count) (verdict .check) answer ≡ verdictLeaves verdict answer)
   answer-refused refusal e = rw e (refl, refl)
 
-  pub answer-given : answerResult (length answer) ≡ gives tt
+  pub answer-given : answerRoomResult (length answer) ≡ gives tt
       → (passOrFail verdict ≡ verdictReturns (length answer) verdict)
       × (answerBuffer (verdict .utilisation) (verdict .count) (verdict .check) answer ≡ verdictLeaves verdict answer)
   answer-given e = rw e (refl, refl)

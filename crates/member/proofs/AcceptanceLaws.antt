@@ -150,8 +150,8 @@ braced-cells TensionBending e = (refl, refl)
 -- the ranges that the member of an accepted row keeps
 pub accepted-ranges : (kind : Kind) (cells : List Cell) {begun : Bool} → length cells ≡ cellCount → begun ≡ isBegun kind cells → Unbroken kind begun cells → RangesOf kind (memberOf kind begun (valuesOf cells))
 accepted-ranges kind cells {begun} whole is ok =
-    let filled : (n : ℕ) → required kind n ≡ true → wanted kind begun n ≡ true = always kind begun cells whole ok in
-    let first : (n : ℕ) → 1 ≤ n → n ≤ 7 → wanted kind begun n ≡ true = λ n low high. filled n (first-cells kind n low high) in
+    let has : (n : ℕ) → required kind n ≡ true → wanted kind begun n ≡ true = always kind begun cells whole ok in
+    let first : (n : ℕ) → 1 ≤ n → n ≤ 7 → wanted kind begun n ≡ true = λ n low high. has n (first-cells kind n low high) in
     let at = cell-in kind begun cells whole ok in
     let code = code-known kind begun cells whole ok in
     record {
@@ -164,13 +164,13 @@ accepted-ranges kind cells {begun} whole is ok =
                 (at 4 (lit< tt) (first 5 (lit≤ tt) (lit≤ tt)));
             section = record { width = at 5 (lit< tt) (first 6 (lit≤ tt) (lit≤ tt)); height = at 6 (lit< tt) (first 7 (lit≤ tt) (lit≤ tt)) };
           };
-      force = λ e. at 7 (lit< tt) (filled 8 e);
-      moment = λ e. at 8 (lit< tt) (filled 9 e);
+      force = λ e. at 7 (lit< tt) (has 8 e);
+      moment = λ e. at 8 (lit< tt) (has 9 e);
       braced = λ e.
           let row = braced-cells kind e .1 in
           record {
-            lh = at 10 (lit< tt) (filled 11 e);
-            lb = at 11 (lit< tt) (filled 12 (braced-cells kind e .0));
+            lh = at 10 (lit< tt) (has 11 e);
+            lb = at 11 (lit< tt) (has 12 (braced-cells kind e .0));
             limit = limit-in (here kind begun cells whole ok .table16) (leb-true _ _ (row-known kind begun cells whole ok row .0));
           };
       table16 = row-low kind begun cells whole ok;
@@ -197,28 +197,28 @@ module _ (kind : Kind) (cells : List Cell) {begun : Bool} (is : begun ≡ isBegu
   none-refused ok = rw (← is, ok .fill, ok .code, ok .range)
 
 -- what a result of acceptance promises: a member that keeps its ranges
-abbrev Kept : Result Member → Type 0
-Kept (gives m) = RangesOf (m .kind) m
-Kept (refuses number cell) = Unit
+abbrev RangesKept : Result Member → Type 0
+RangesKept (gives m) = RangesOf (m .kind) m
+RangesKept (refuses number cell) = Unit
 
-kept-unless : (number cell : ℕ) (rest : Result Member) → (cell ≡ 0 → Kept rest) → Kept (unlessRefused number cell rest)
+kept-unless : (number cell : ℕ) (rest : Result Member) → (cell ≡ 0 → RangesKept rest) → RangesKept (unlessRefused number cell rest)
 kept-unless number cell rest keep = by (eqb cell 0) refl
   where
-    by : (t : Bool) → eqb cell 0 ≡ t → Kept (cond t rest (refuses number cell))
+    by : (t : Bool) → eqb cell 0 ≡ t → RangesKept (cond t rest (refuses number cell))
     by true e = keep (eqb-true _ _ e)
     by false e = tt
 
-kept-kind : (kind : Kind) (cells : List Cell) → length cells ≡ cellCount → Kept (acceptKind kind cells)
+kept-kind : (kind : Kind) (cells : List Cell) → length cells ≡ cellCount → RangesKept (acceptKind kind cells)
 unfolding acceptKind
 kept-kind kind cells whole =
     kept-unless 2 _ _
     (λ f. kept-unless 3 _ _ (λ c. kept-unless 4 _ _ (λ r. accepted-ranges kind cells whole refl (record { fill = f; code = c; range = r }))))
 
-kept-code : (code : KindCode) (cells : List Cell) → length cells ≡ cellCount → Kept (acceptCode code cells)
+kept-code : (code : KindCode) (cells : List Cell) → length cells ≡ cellCount → RangesKept (acceptCode code cells)
 kept-code Unknown cells whole = tt
 kept-code (Known kind) cells whole = kept-kind kind cells whole
 
-kept-first : (first : Cell) (cells : List Cell) → length cells ≡ cellCount → Kept (acceptFirst first cells)
+kept-first : (first : Cell) (cells : List Cell) → length cells ≡ cellCount → RangesKept (acceptFirst first cells)
 kept-first Blank cells whole = tt
 kept-first (Whole code) cells whole = kept-code (kindOf code) cells whole
 

@@ -4,7 +4,7 @@ use Prim.Native.Nat.{ℕ, _*_, _≤_}
 use mathlib.Core.List.{List, [], _∷_, _++_, map}
 use mathlib.Core.Logic.{_⊎_, inl, inr, _↔_}
 use mathlib.Core.Path.{_≡_, refl}
-use Rattle.member.specs.Checks.{YesNo, Strength, Has, yesNo, strength, number, yesNoOf, strengthOf, slenderness, buckling}
+use Rattle.member.specs.Checks.{YesNoCheck, StrengthCheck, Has, yesNo, strength, checkNumber, yesNoChecks, strengthChecks, slenderness, buckling}
 use Rattle.member.specs.Member.{acrossHeight, acrossWidth, limitOf}
 use Rattle.member.specs.Unrounded.{Forces, Holds}
 use Rattle.member.specs.declared.kind.Kind.{Kind}
@@ -13,7 +13,7 @@ use Rattle.member.specs.declared.member.Member.{Member}
 
 -- the numbers of a kind's checks
 abbrev numbersOf : Kind → List ℕ
-numbersOf kind = map (λ (c : YesNo). number (yesNo c)) (yesNoOf kind) ++ map (λ (c : Strength). number (strength c)) (strengthOf kind)
+numbersOf kind = map (λ (c : YesNoCheck). checkNumber (yesNo c)) (yesNoChecks kind) ++ map (λ (c : StrengthCheck). checkNumber (strength c)) (strengthChecks kind)
 
 -- kind 1 has checks 1 to 6; 2 has 7 and 8; 3 has 2, 3, 9 and 10; 4 has 2, 3 and 8 to 11; 5 has 2, 3, 8 and 11
 pub checks-of-kinds : (numbersOf Tension ≡ 1 ∷ 2 ∷ 3 ∷ 4 ∷ 5 ∷ 6 ∷ [])

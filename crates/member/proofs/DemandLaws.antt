@@ -12,7 +12,7 @@ use Rattle.rounding.specs.Fraction.{scaled}
 use Rattle.rounding.proofs.Soundness.{Sound}
 use Rattle.sp64.proofs.YesNoChecks.{layout-iff, slenderness-iff}
 use Rattle.cells.specs.Greatest.{Among}
-use Rattle.member.specs.Checks.{Check, YesNo, Strength, yesNo, strength, number, yesNoOf, strengthOf, omitted, Has, layout, slenderness, jointLength, netTension, sidePieces, bending, shear, buckling, compressionBending, tensionBending}
+use Rattle.member.specs.Checks.{Check, YesNoCheck, StrengthCheck, yesNo, strength, checkNumber, yesNoChecks, strengthChecks, omitted, Has, layout, slenderness, jointLength, netTension, sidePieces, bending, shear, buckling, compressionBending, tensionBending}
 use Rattle.member.specs.Demand3.{EachFrom, FailsOn, LayoutOrSlenderness, FirstToFail, CountFor, Demand3At}
 use Rattle.member.specs.Member.{Across, acrossHeight, acrossWidth, strutOf, limitOf, countOf}
 use Rattle.member.specs.Unrounded.{Forces, times, Holds}
@@ -22,13 +22,13 @@ use Rattle.member.specs.declared.verdict.Verdict.{Verdict}
 use Rattle.member.proofs.VerdictLaws.{yesNoNumber, strengthNumber, strength-rising, rising-same, clash, AllHold, FirstFailing, Governs, governs, VerdictOutcome, verdict-outcome}
 
 -- The numbers of the checks: yes-or-no checks have 1 to 4, each its own, and strength checks 5 and more.
-yes-no-low : (c : YesNo) → yesNoNumber c ≤ 4
+yes-no-low : (c : YesNoCheck) → yesNoNumber c ≤ 4
 yes-no-low layout = lit≤ tt
 yes-no-low (slenderness acrossHeight) = lit≤ tt
 yes-no-low (slenderness acrossWidth) = lit≤ tt
 yes-no-low jointLength = lit≤ tt
 
-pub strength-high : (c : Strength) → 5 ≤ strengthNumber c
+pub strength-high : (c : StrengthCheck) → 5 ≤ strengthNumber c
 strength-high netTension = lit≤ tt
 strength-high sidePieces = lit≤ tt
 strength-high bending = lit≤ tt
@@ -43,46 +43,46 @@ pub slenderness-low : (across : Across) → LayoutOrSlenderness (yesNo (slendern
 slenderness-low acrossHeight = lit≤ tt
 slenderness-low acrossWidth = lit≤ tt
 
-abbrev yesNoAt : ℕ → YesNo
+abbrev yesNoAt : ℕ → YesNoCheck
 yesNoAt n = cond (eqb n 1) layout (cond (eqb n 2) (slenderness acrossHeight) (cond (eqb n 3) (slenderness acrossWidth) jointLength))
 
-yes-no-at : (c : YesNo) → yesNoAt (yesNoNumber c) ≡ c
+yes-no-at : (c : YesNoCheck) → yesNoAt (yesNoNumber c) ≡ c
 yes-no-at layout = refl
 yes-no-at (slenderness acrossHeight) = refl
 yes-no-at (slenderness acrossWidth) = refl
 yes-no-at jointLength = refl
 
-same-yes-no : (c d : YesNo) → yesNoNumber c ≡ yesNoNumber d → c ≡ d
+same-yes-no : (c d : YesNoCheck) → yesNoNumber c ≡ yesNoNumber d → c ≡ d
 same-yes-no c d e = sym (yes-no-at c) ∙ ap yesNoAt e ∙ yes-no-at d
 
 module _ (m : Member) (f : Forces) where
   -- a strength check with its unrounded form
-  abbrev pub StrengthSound : (Check → ℕ) → Strength → Type 0
+  abbrev pub StrengthSound : (Check → ℕ) → StrengthCheck → Type 0
   StrengthSound g c = Sound (g (strength c)) (utilisationOf m c) (Holds m f (strength c)) (λ k. Holds m (times k f) (strength c))
 
   -- what the checks of the row owe: joint length, strength where the yes-or-no checks hold, and the count
   pub record ChecksSound (g : Check → ℕ) : Type 0 where
     pub length-pass : m .jointed ≡ true → holds m jointLength ≡ true → Holds m f (yesNo jointLength)
     pub length-fail : m .jointed ≡ true → holds m jointLength ≡ false → (k : ℕ) → g (yesNo jointLength) ≤ k → Holds m (times k f) (yesNo jointLength) → ⊥
-    pub strength-sound : AllHold m (yesNoOf (m .kind)) → (c : Strength) → Among c (strengthOf (m .kind)) → omitted m (strength c) ≡ false → StrengthSound g c
+    pub strength-sound : AllHold m (yesNoChecks (m .kind)) → (c : StrengthCheck) → Among c (strengthChecks (m .kind)) → omitted m (strength c) ≡ false → StrengthSound g c
     pub count-above : m .jointed ≡ true → (n : ℕ) → CountFor m (f .N) n → n ≤ countOf m
     pub count-below : m .jointed ≡ true → (k : ℕ) → g (yesNo jointLength) ≤ k → (n : ℕ) → CountFor m (scaled k (f .N)) n → countOf m ≤ n
 
   -- layout and slenderness round nothing
-  pub exact : (c : YesNo) → LayoutOrSlenderness (yesNo c) → holds m c ≡ true ↔ Holds m f (yesNo c)
+  pub exact : (c : YesNoCheck) → LayoutOrSlenderness (yesNo c) → holds m c ≡ true ↔ Holds m f (yesNo c)
   exact layout low = layout-iff (m .height) (m .joint)
   exact (slenderness across) low = slenderness-iff (limitOf m) (strutOf m across)
   exact jointLength low = absurd (omega arith)
 
   module _ {g : Check → ℕ} (s : ChecksSound g) (k : Check → ℕ) (big : EachFrom g k) where
     -- a yes-or-no check that holds, holds unrounded
-    yes-no-holds : (c : YesNo) → omitted m (yesNo c) ≡ false → holds m c ≡ true → Holds m f (yesNo c)
+    yes-no-holds : (c : YesNoCheck) → omitted m (yesNo c) ≡ false → holds m c ≡ true → Holds m f (yesNo c)
     yes-no-holds layout kept e = exact layout (lit≤ tt) .0 e
     yes-no-holds (slenderness across) kept e = exact (slenderness across) (slenderness-low across) .0 e
     yes-no-holds jointLength kept e = s .length-pass (not-false _ kept) e
 
     -- the verdict by strength, where c governs
-    module _ (all : AllHold m (yesNoOf (m .kind))) (c : Strength) (governed : Governs m (strengthOf (m .kind)) c) where
+    module _ (all : AllHold m (yesNoChecks (m .kind))) (c : StrengthCheck) (governed : Governs m (strengthChecks (m .kind)) c) where
       abbrev byUse : Verdict
       byUse = byStrength (used m c) (countOf m)
 
@@ -98,7 +98,7 @@ module _ (m : Member) (f : Forces) where
           s .strength-sound all d (has .of-kind) (has .kept) .pass (omega (arith, governed .greatest d (has .of-kind) (has .kept)))
 
       none-named : (d : Check) → LayoutOrSlenderness d → FailsOn byUse d → FirstToFail m f d
-      none-named d low on = let e : strengthNumber c ≡ number d = on .names in absurd (omega (arith, strength-high c))
+      none-named d low on = let e : strengthNumber c ≡ checkNumber d = on .names in absurd (omega (arith, strength-high c))
 
       none-first : (d : Check) → LayoutOrSlenderness d → FirstToFail m f d → FailsOn byUse d
       none-first (yesNo d) low first = absurd (first .fails (exact d low .0 (all d (first .has .of-kind) (first .has .kept))))
@@ -109,7 +109,7 @@ module _ (m : Member) (f : Forces) where
           let e : strengthNumber c ≡ yesNoNumber d = on .names in absurd (omega (arith, strength-high c, yes-no-low d))
       fail-strength (strength d) has on h =
           let e : d ≡ c =
-          rising-same strengthNumber (strengthOf (m .kind)) (strength-rising (m .kind)) d c (has .of-kind) (governed .among) (sym (on .names)) in
+          rising-same strengthNumber (strengthChecks (m .kind)) (strength-rising (m .kind)) d c (has .of-kind) (governed .among) (sym (on .names)) in
           s .strength-sound all d (has .of-kind) (has .kept) .fail (k (strength d)) (big (strength d)) (rw e (above (on .fails))) h
 
       demand-strength : Demand3At m f byUse k
@@ -124,9 +124,9 @@ module _ (m : Member) (f : Forces) where
           }
 
     -- the verdict by the yes-or-no check c, the first to fail
-    module _ (c : YesNo) (fails : FirstFailing m (yesNoOf (m .kind)) c) where
+    module _ (c : YesNoCheck) (fails : FirstFailing m (yesNoChecks (m .kind)) c) where
       abbrev onCheck : Verdict
-      onCheck = failedOn (number (yesNo c)) (countOnFail m c)
+      onCheck = failedOn (checkNumber (yesNo c)) (countOnFail m c)
 
       has-it : Has m (yesNo c)
       has-it = record { of-kind = fails .among; kept = fails .kept }
@@ -134,7 +134,7 @@ module _ (m : Member) (f : Forces) where
       fails-exactly : LayoutOrSlenderness (yesNo c) → Holds m f (yesNo c) → ⊥
       fails-exactly low h = clash (exact c low .1 h) (fails .fails)
 
-      holds-before : (d : Check) → Has m d → number d < number (yesNo c) → Holds m f d
+      holds-before : (d : Check) → Has m d → checkNumber d < checkNumber (yesNo c) → Holds m f d
       holds-before (yesNo d) has lt = yes-no-holds d (has .kept) (fails .before d (has .of-kind) lt (has .kept))
       holds-before (strength d) has lt = absurd (omega (arith, strength-high d, yes-no-low c))
 
@@ -164,7 +164,7 @@ module _ (m : Member) (f : Forces) where
       first-is-named (strength d) low first = absurd (omega (arith, strength-high d))
 
       -- joint length is the one check that fails by its rounding
-      fail-length : (d : YesNo) → (LayoutOrSlenderness (yesNo d) → ⊥) → omitted m (yesNo d) ≡ false → holds m d ≡ false → Holds m (times (k (yesNo d)) f) (yesNo d) → ⊥
+      fail-length : (d : YesNoCheck) → (LayoutOrSlenderness (yesNo d) → ⊥) → omitted m (yesNo d) ≡ false → holds m d ≡ false → Holds m (times (k (yesNo d)) f) (yesNo d) → ⊥
       fail-length layout high kept e h = high (lit≤ tt)
       fail-length (slenderness across) high kept e h = absurd (high (slenderness-low across))
       fail-length jointLength high kept e h = s .length-fail (not-false _ kept) e (k (yesNo jointLength)) (big (yesNo jointLength)) h
@@ -179,7 +179,7 @@ module _ (m : Member) (f : Forces) where
       not-exact : ((d : Check) → LayoutOrSlenderness d → Has m d → Holds m f d) → LayoutOrSlenderness (yesNo c) → ⊥
       not-exact hold low = fails-exactly low (hold (yesNo c) low has-it)
 
-      counted : (P : ℕ → Type 0) (d : YesNo) → (LayoutOrSlenderness (yesNo d) → ⊥) → P (countOf m) → P (countOnFail m d)
+      counted : (P : ℕ → Type 0) (d : YesNoCheck) → (LayoutOrSlenderness (yesNo d) → ⊥) → P (countOf m) → P (countOnFail m d)
       counted P layout high p = absurd (high (lit≤ tt))
       counted P (slenderness across) high p = absurd (high (slenderness-low across))
       counted P jointLength high p = p

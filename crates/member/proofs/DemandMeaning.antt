@@ -10,7 +10,7 @@ use lib.Dec.{leb}
 use Rattle.rounding.specs.Fraction.{scaled}
 use Rattle.sp64.proofs.Denominators.{scaled-real}
 use Rattle.sp64.proofs.JointLaws.{count-exists}
-use Rattle.member.specs.Checks.{Check, YesNo, yesNo, strength, jointLength, number, yesNoOf, Has}
+use Rattle.member.specs.Checks.{Check, YesNoCheck, yesNo, strength, jointLength, checkNumber, yesNoChecks, Has}
 use Rattle.member.specs.Demand3.{FailsOn, LayoutOrSlenderness, FirstToFail, CountFor, Demand3At}
 use Rattle.member.specs.Ranges.{RangesOf}
 use Rattle.member.specs.Unrounded.{Forces, times, Holds}
@@ -23,7 +23,7 @@ use Rattle.member.proofs.Reliance.{joined}
 
 -- the forces at which a failed check must fail: those of the row for layout and slenderness, k c thousandths of them for another check c
 abbrev pub failForces : (Check → ℕ) → Forces → Check → Forces
-failForces k f c = cond (leb (number c) 3) f (times (k c) f)
+failForces k f c = cond (leb (checkNumber c) 3) f (times (k c) f)
 
 module _ (m : Member) (f : Forces) where
   -- where layout or slenderness fails, one of the checks is the first to fail
@@ -33,9 +33,9 @@ module _ (m : Member) (f : Forces) where
       ⊎-elim
       (λ all. absurd (fails (exact m f c low .0 (all .0 c (has .of-kind) (has .kept)))))
       (λ first. found (first .0) (first .1))
-      (judge-meaning m (yesNoOf (m .kind)) (yes-no-rising (m .kind)) (failedOn 0 0))
+      (judge-meaning m (yesNoChecks (m .kind)) (yes-no-rising (m .kind)) (failedOn 0 0))
     where
-      found : (d : YesNo) → FirstFailing m (yesNoOf (m .kind)) d → (d : Check) × LayoutOrSlenderness d × FirstToFail m f d
+      found : (d : YesNoCheck) → FirstFailing m (yesNoChecks (m .kind)) d → (d : Check) × LayoutOrSlenderness d × FirstToFail m f d
       found d first = (
         yesNo d,
         low-d,
@@ -54,7 +54,7 @@ module _ (m : Member) (f : Forces) where
           low-d : LayoutOrSlenderness (yesNo d)
           low-d = omega (arith, not-before _ refl)
 
-          before : (e : Check) → Has m e → number e < yesNoNumber d → Holds m f e
+          before : (e : Check) → Has m e → checkNumber e < yesNoNumber d → Holds m f e
           before (yesNo e) has lt = exact m f e (omega (arith, low-d)) .0 (first .before e (has .of-kind) lt (has .kept))
           before (strength e) has lt = absurd (omega (arith, low-d, strength-high e))
 
@@ -77,17 +77,17 @@ module _ (m : Member) (f : Forces) where
 
     -- a failed check fails unrounded, at the forces of the row or at those times its factor
     pub failed : (c : Check) → Has m c → FailsOn v c → Holds m (failForces k f c) c → ⊥
-    failed c has on = by (leb (number c) 3) refl
+    failed c has on = by (leb (checkNumber c) 3) refl
       where
-        by : (t : Bool) → leb (number c) 3 ≡ t → Holds m (cond t f (times (k c) f)) c → ⊥
+        by : (t : Bool) → leb (checkNumber c) 3 ≡ t → Holds m (cond t f (times (k c) f)) c → ⊥
         by true e = fails-on-one c (leb-true _ _ e) on .1
-        by false e = demand .fail c has (λ low. omega (arith, leb-false (number c) 3 e)) on
+        by false e = demand .fail c has (λ low. omega (arith, leb-false (checkNumber c) 3 e)) on
 
     -- the verdict names a check of the row, by which the row passes or fails
-    pub pass-or-fail : (c : Check) × Has m c × (v .check ≡ number c) × PassOrFail v k c
+    pub pass-or-fail : (c : Check) × Has m c × (v .check ≡ checkNumber c) × PassOrFail v k c
     pass-or-fail = let named = demand .named in (named .0, named .1, named .2, by (named .0) (named .1) (named .2) (v .passes) refl)
       where
-        by : (c : Check) → Has m c → v .check ≡ number c → (t : Bool) → v .passes ≡ t → PassOrFail v k c
+        by : (c : Check) → Has m c → v .check ≡ checkNumber c → (t : Bool) → v .passes ≡ t → PassOrFail v k c
         by c has names true e = inl (e, demand .pass e)
         by c has names false e = let on : FailsOn v c = record { fails = e; names = names } in inr (on, failed c has on)
 

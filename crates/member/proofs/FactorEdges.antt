@@ -106,23 +106,23 @@ pub past-8 : Holds beam (times 1006 (forcesOf beam)) (strength shear) → ⊥
 past-8 h = past-it _ _ refl h
 
 -- Checks 9 and 10.
-abbrev strut : Member
-strut = memberOf Compression false (valuesOf compressionEdge)
+abbrev column : Member
+column = memberOf Compression false (valuesOf compressionEdge)
 
-pub compression-edge-accepted : (accept compressionEdge ≡ gives strut) × (length compressionEdge ≡ cellCount)
+pub compression-edge-accepted : (accept compressionEdge ≡ gives column) × (length compressionEdge ≡ cellCount)
 unfolding acceptKind lowest
 compression-edge-accepted = (refl, refl)
 
-pub fail-9 : (utilisation count : ℕ) → Demand3 strut (says false 9 utilisation count) demandFactor → ⊥
+pub fail-9 : (utilisation count : ℕ) → Demand3 column (says false 9 utilisation count) demandFactor → ⊥
 fail-9 u n d = d .fail (strength (buckling acrossHeight)) (record { of-kind = inl refl; kept = refl }) (λ low. absurd (omega arith)) (record { fails = refl; names = refl }) (lit≤ tt)
 
-pub past-9 : Holds strut (times 1006 (forcesOf strut)) (strength (buckling acrossHeight)) → ⊥
+pub past-9 : Holds column (times 1006 (forcesOf column)) (strength (buckling acrossHeight)) → ⊥
 past-9 h = past-it _ _ refl h
 
-pub fail-10 : (utilisation count : ℕ) → Demand3 strut (says false 10 utilisation count) demandFactor → ⊥
+pub fail-10 : (utilisation count : ℕ) → Demand3 column (says false 10 utilisation count) demandFactor → ⊥
 fail-10 u n d = d .fail (strength (buckling acrossWidth)) (record { of-kind = inr (inl refl); kept = refl }) (λ low. absurd (omega arith)) (record { fails = refl; names = refl }) (lit≤ tt)
 
-pub past-10 : Holds strut (times 1006 (forcesOf strut)) (strength (buckling acrossWidth)) → ⊥
+pub past-10 : Holds column (times 1006 (forcesOf column)) (strength (buckling acrossWidth)) → ⊥
 past-10 h = past-it _ _ refl h
 
 -- Check 11.

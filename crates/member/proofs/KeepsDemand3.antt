@@ -38,12 +38,12 @@ module _ (cells : List Cell) (m : Member) (whole : length cells ≡ cellCount) (
   bending-keeps-demand-3 e f upM upQ k big = demand-from m f (bending-checks-sound m e (accept-ranges cells m whole given) f upM upQ) k (λ c. omega (arith, big c))
 
 -- an answer that says a verdict is that verdict
-abbrev Given : {A : Type 0} → Result A → Type 0
-Given (gives value) = Unit
-Given (refuses number cell) = ⊥
+abbrev NotRefused : {A : Type 0} → Result A → Type 0
+NotRefused (gives value) = Unit
+NotRefused (refuses number cell) = ⊥
 
 judged-only : (answer : Answer) (v : Verdict) → answerResult answer ≡ gives v → answer ≡ Judged v
-judged-only (Refused refusal) v e = absurd (subst (λ (r : Result Verdict). Given r) (sym e) tt)
+judged-only (Refused refusal) v e = absurd (subst (λ (r : Result Verdict). NotRefused r) (sym e) tt)
 judged-only (Judged w) v e = ap (λ (r : Result Verdict). Judged (valueOr w r)) e
 
 -- an answer that is the row check's keeps demand 3

@@ -13,7 +13,7 @@ use Rattle.rounding.proofs.Soundness.{utilisation-more}
 use Rattle.sp64.proofs.ForceLaws.{tension-bending-more, compression-bending-more, length-kept}
 use Rattle.member.specs.Acceptance.{accept}
 use Rattle.cells.specs.Greatest.{Among}
-use Rattle.member.specs.Checks.{YesNo, Strength, yesNo, strength, yesNoOf, strengthOf, omitted, layout, slenderness, jointLength, netTension, sidePieces, bending, shear, buckling, compressionBending, tensionBending}
+use Rattle.member.specs.Checks.{YesNoCheck, StrengthCheck, yesNo, strength, yesNoChecks, strengthChecks, omitted, layout, slenderness, jointLength, netTension, sidePieces, bending, shear, buckling, compressionBending, tensionBending}
 use Rattle.member.specs.Member.{acrossHeight, acrossWidth}
 use Rattle.member.specs.Verdict.{holds, utilisationOf, verdict, judged, checkRow}
 use Rattle.member.specs.declared.member.Member.{Member}
@@ -22,20 +22,20 @@ use Rattle.member.proofs.VerdictLaws.{clash, AllHold, governs, VerdictO
 
 -- every strength check that the row has is within its utilisation
 abbrev AllWithin : Member → Type 0
-AllWithin m = (c : Strength) → Among c (strengthOf (m .kind)) → omitted m (strength c) ≡ false → utilisationOf m c ≤ 1000000
+AllWithin m = (c : StrengthCheck) → Among c (strengthChecks (m .kind)) → omitted m (strength c) ≡ false → utilisationOf m c ≤ 1000000
 
 module _ (m : Member) where
-  passes-when : AllHold m (yesNoOf (m .kind)) × AllWithin m → verdict m .passes ≡ true
+  passes-when : AllHold m (yesNoChecks (m .kind)) × AllWithin m → verdict m .passes ≡ true
   passes-when (all, within) = by (verdict-outcome m)
     where
       by : VerdictOutcome m → verdict m .passes ≡ true
       by (inl (h, e)) = let g = governs m (m .kind) in rw (e, g .2) (le-leb _ _ (within (g .0) (g .1 .among) (g .1 .kept)))
       by (inr (c, f, e)) = absurd (clash (all c (f .among) (f .kept)) (f .fails))
 
-  passes-means : verdict m .passes ≡ true → AllHold m (yesNoOf (m .kind)) × AllWithin m
+  passes-means : verdict m .passes ≡ true → AllHold m (yesNoChecks (m .kind)) × AllWithin m
   passes-means p = by (verdict-outcome m)
     where
-      by : VerdictOutcome m → AllHold m (yesNoOf (m .kind)) × AllWithin m
+      by : VerdictOutcome m → AllHold m (yesNoChecks (m .kind)) × AllWithin m
       by (inl (h, e)) =
           let g = governs m (m .kind) in
           let below : utilisationOf m (g .0) ≤ 1000000 = leb-true _ _ (rw (e, g .2) at p) in
@@ -43,7 +43,7 @@ module _ (m : Member) where
       by (inr (c, f, e)) = absurd (clash p (ap (λ (v : Verdict). v .passes) e))
 
   -- a row passes exactly where each of its checks does
-  pub passes-iff : verdict m .passes ≡ true ↔ (AllHold m (yesNoOf (m .kind)) × AllWithin m)
+  pub passes-iff : verdict m .passes ≡ true ↔ (AllHold m (yesNoChecks (m .kind)) × AllWithin m)
   passes-iff = (passes-means, passes-when)
 
 -- the same row with other forces in cells 8, 9 and 10
@@ -68,7 +68,7 @@ module _ (m : Member) {N M Q : ℕ} (leN : N ≤ m .force) (leM : M ≤ m .momen
   abbrev lighter : Member
   lighter = withForces N M Q m
 
-  hold-still : (c : YesNo) → (omitted m (yesNo c) ≡ false → holds m c ≡ true) → omitted lighter (yesNo c) ≡ false → holds lighter c ≡ true
+  hold-still : (c : YesNoCheck) → (omitted m (yesNo c) ≡ false → holds m c ≡ true) → omitted lighter (yesNo c) ≡ false → holds lighter c ≡ true
   hold-still layout h kept = h kept
   hold-still (slenderness acrossHeight) h kept = h kept
   hold-still (slenderness acrossWidth) h kept = h kept
@@ -78,7 +78,7 @@ module _ (m : Member) {N M Q : ℕ} (leN : N ≤ m .force) (leM : M ≤ m .momen
       by true e p = rw e (length-kept (m .width) (m .joint) (m .material) leN (rw e at p))
       by false e p = rw e (rw e at p)
 
-  use-less : (c : Strength) → utilisationOf lighter c ≤ utilisationOf m c
+  use-less : (c : StrengthCheck) → utilisationOf lighter c ≤ utilisationOf m c
   use-less netTension = utilisation-more _ leN
   use-less sidePieces = utilisation-more _ leN
   use-less bending = utilisation-more _ leM
@@ -88,7 +88,7 @@ module _ (m : Member) {N M Q : ℕ} (leN : N ≤ m .force) (leM : M ≤ m .momen
   use-less compressionBending = compression-bending-more _ _ _ leN leM
   use-less tensionBending = tension-bending-more _ _ leN leM
 
-  kept-still : (c : Strength) → omitted lighter (strength c) ≡ omitted m (strength c)
+  kept-still : (c : StrengthCheck) → omitted lighter (strength c) ≡ omitted m (strength c)
   kept-still netTension = refl
   kept-still sidePieces = refl
   kept-still bending = refl

@@ -23,7 +23,7 @@ use Rattle.sp64.specs.declared.strut.Strut.{Strut}
 use Rattle.sp64.proofs.PhiLaws.{Steady}
 use Rattle.sp64.proofs.Denominators.{Proper, scaled-real, net-height-kept, stocky-phi-kept, phi-proper, slender-phi-proper, core-crushing-proper, side-crushing-proper, dowel-bending-proper, strength-proper, tension-proper, net-tension-proper, side-piece-proper, compression-proper, bending-proper, shear-proper, buckling-proper, euler-proper, share-real, remainder-proper, moment-real, combined-real}
 use Rattle.member.specs.Acceptance.{accept}
-use Rattle.member.specs.Checks.{Check, Strength, yesNo, strength, Has, layout, netTension, sidePieces, bending, shear, buckling, compressionBending, tensionBending}
+use Rattle.member.specs.Checks.{Check, StrengthCheck, yesNo, strength, Has, layout, netTension, sidePieces, bending, shear, buckling, compressionBending, tensionBending}
 use Rattle.member.specs.Demand3.{LayoutOrSlenderness}
 use Rattle.member.specs.Member.{acrossHeight, strutOf, limitOf, exactNRof, exactMRof}
 use Rattle.member.specs.Ranges.{Sized}
@@ -79,7 +79,7 @@ pub record ProperCompressionBending (N M NR C MR : Fraction) : Type 0 where
   pub combined : exactAxialShare N C ≺ whole 1000000 → ProperCombined N NR (exactSecondOrderMoment M (exactAxialShare N C)) MR
 
 -- what must be a value, and what above zero, in the unrounded strength check c at the forces f
-abbrev pub ProperAt : Member → Forces → Strength → Type 0
+abbrev pub ProperAt : Member → Forces → StrengthCheck → Type 0
 ProperAt m f netTension =
     ProperRatio (f .N)
     (cond (m .jointed)
@@ -162,7 +162,7 @@ module _ (m : Member) (f : Forces) (real : Real f) (here : Sized m) where
       )
 
   -- a strength check that has what it relies on
-  proper-strength : (c : Strength) → ReliesOn m c → ProperAt m f c
+  proper-strength : (c : StrengthCheck) → ReliesOn m c → ProperAt m f c
   proper-strength netTension laid = net-tension laid
   proper-strength sidePieces laid = (
     record { force-real = real .N; capacity-proper = side-piece-proper (here .material) (here .section) (laid .joint) (laid .layout) },
@@ -193,16 +193,16 @@ module _ (cells : List Cell) (m : Member) (whole : length cells ≡ cellCount) (
 
   module _ (hold : (c : Check) → LayoutOrSlenderness c → Has m c → Holds m (forcesOf m) c) where
     -- at any forces that are values, nothing in a strength check of the row is empty
-    pub nothing-empty-at : (f : Forces) → Real f → (c : Strength) → Has m (strength c) → ProperAt m f c
+    pub nothing-empty-at : (f : Forces) → Real f → (c : StrengthCheck) → Has m (strength c) → ProperAt m f c
     nothing-empty-at f real c has =
         let ranges = accept-ranges cells m whole given in
         let holds : ExactHold m (m .kind) = λ d low a kept. hold (yesNo d) low (record { of-kind = a; kept = kept }) in
         proper-strength m f real (ranges .sized) c (relied-on m (m .kind) ranges holds c (has .of-kind) (has .kept))
 
     -- nor at the forces of the cells
-    pub nothing-empty : (c : Strength) → Has m (strength c) → ProperAt m (forcesOf m) c
+    pub nothing-empty : (c : StrengthCheck) → Has m (strength c) → ProperAt m (forcesOf m) c
     nothing-empty = nothing-empty-at (forcesOf m) (forces-real m)
 
     -- nor at k thousandths of them
-    pub nothing-empty-scaled : (k : ℕ) (c : Strength) → Has m (strength c) → ProperAt m (times k (forcesOf m)) c
+    pub nothing-empty-scaled : (k : ℕ) (c : StrengthCheck) → Has m (strength c) → ProperAt m (times k (forcesOf m)) c
     nothing-empty-scaled k = nothing-empty-at (times k (forcesOf m)) (times-real k (forcesOf m) (forces-real m))

@@ -39,13 +39,13 @@ module _ (cells : List Cell) (test : ℕ → Cell → Bool) where
     pub lower : (j : ℕ) → j < place → test (1 + j) (getD cells j Blank) ≡ false
 
   -- what a search finds
-  abbrev Found : Type 0
-  Found = ((lowestCell test cells ≡ 0) × Kept) ⊎ ((cell : ℕ) × (cell ≡ lowestCell test cells) × (cell ≡ 0 → ⊥) × Named cell)
+  abbrev Search : Type 0
+  Search = ((lowestCell test cells ≡ 0) × Kept) ⊎ ((cell : ℕ) × (cell ≡ lowestCell test cells) × (cell ≡ 0 → ⊥) × Named cell)
 
-  found : Found
+  found : Search
   found = by (lowest-meaning test 1 cells)
     where
-      by : Passes test 1 cells ⊎ ((k : ℕ) × FailsAt test 1 cells k) → Found
+      by : Passes test 1 cells ⊎ ((k : ℕ) × FailsAt test 1 cells k) → Search
       by (inl r) = inl (r .none, λ k h. r .all k Blank h)
       by (inr (k, r)) =
           inr (
@@ -76,7 +76,7 @@ module _ (kind : Kind) (cells : List Cell) where
   pub begun-iff : isBegun kind cells ≡ true ↔ Begins kind cells
   begun-iff = by (found cells (begins kind))
     where
-      by : Found cells (begins kind) → isBegun kind cells ≡ true ↔ Begins kind cells
+      by : Search cells (begins kind) → isBegun kind cells ≡ true ↔ Begins kind cells
       by (inl (none, kept)) = (
         λ e. absurd (true≢false (sym e ∙ rw none refl)),
         λ b. absurd (true≢false (sym (rw (b .is-filled, b .is-optional) refl) ∙ kept (b .place) (b .inside))),
@@ -106,16 +106,16 @@ module _ (kind : Kind) (cells : List Cell) where
   pub kind-meaning : Meaning (acceptKind kind cells)
   kind-meaning = by-fill (found cells fill)
     where
-      by-range : (lowestCell fill cells ≡ 0) × Kept cells fill → (lowestCell code cells ≡ 0) × Kept cells code → Found cells outOfRange → Meaning (acceptKind kind cells)
+      by-range : (lowestCell fill cells ≡ 0) × Kept cells fill → (lowestCell code cells ≡ 0) × Kept cells code → Search cells outOfRange → Meaning (acceptKind kind cells)
       by-range f c (inl r) =
           subst Meaning (sym (none-refused kind cells refl (record { fill = f .0; code = c .0; range = r .0 }))) (f .1, c .1, r .1)
       by-range f c (inr (cell, e, some, named)) = subst Meaning (sym (range-refused kind cells refl (f .0) (c .0) e some)) (inr (inr (refl, f .1, c .1, named)))
 
-      by-code : (lowestCell fill cells ≡ 0) × Kept cells fill → Found cells code → Meaning (acceptKind kind cells)
+      by-code : (lowestCell fill cells ≡ 0) × Kept cells fill → Search cells code → Meaning (acceptKind kind cells)
       by-code f (inl c) = by-range f c (found cells outOfRange)
       by-code f (inr (cell, e, some, named)) = subst Meaning (sym (code-refused kind cells refl (f .0) e some)) (inr (inl (refl, f .1, named)))
 
-      by-fill : Found cells fill → Meaning (acceptKind kind cells)
+      by-fill : Search cells fill → Meaning (acceptKind kind cells)
       by-fill (inl f) = by-code f (found cells code)
       by-fill (inr (cell, e, some, named)) = subst Meaning (sym (fill-refused kind cells refl e some)) (inl (refl, named))
 

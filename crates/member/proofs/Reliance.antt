@@ -14,10 +14,10 @@ use Rattle.sp64.specs.Ranges.{InForce, InMoment}
 use Rattle.sp64.specs.Slenderness.{StrutRanges}
 use Rattle.sp64.proofs.PhiLaws.{Steady}
 use Rattle.member.specs.Cells.{required, optional}
-use Rattle.member.specs.Checks.{Strength, YesNo, yesNo, strength, yesNoOf, strengthOf, omitted, layout, slenderness, netTension, sidePieces, bending, shear, buckling, compressionBending, tensionBending}
+use Rattle.member.specs.Checks.{StrengthCheck, YesNoCheck, yesNo, strength, yesNoChecks, strengthChecks, omitted, layout, slenderness, netTension, sidePieces, bending, shear, buckling, compressionBending, tensionBending}
 use Rattle.member.specs.Demand3.{LayoutOrSlenderness}
 use Rattle.member.specs.Member.{Across, acrossHeight, acrossWidth, strutOf, limitOf}
-use Rattle.member.specs.Ranges.{Sized, Braced, RangesOf}
+use Rattle.member.specs.Ranges.{Sized, RangesOf}
 use Rattle.member.specs.Unrounded.{forcesOf, Holds}
 use Rattle.member.specs.declared.kind.Kind.{Kind}
 use Rattle.member.specs.declared.kind.Kind.the-variants.{Tension, Bending, Compression, CompressionBending, TensionBending}
@@ -37,7 +37,7 @@ pub record LaidOut (m : Member) : Type 0 where
   pub layout : Layout (m .height) (m .joint)
 
 -- what strength check c relies on, beside the grade and the section
-abbrev pub ReliesOn : Member → Strength → Type 0
+abbrev pub ReliesOn : Member → StrengthCheck → Type 0
 ReliesOn m netTension = m .jointed ≡ true → LaidOut m
 ReliesOn m sidePieces = LaidOut m
 ReliesOn m bending = Unit
@@ -49,7 +49,7 @@ ReliesOn m tensionBending = Unit
 module _ (m : Member) where
   -- layout and slenderness hold in a row of the kind
   abbrev pub ExactHold : Kind → Type 0
-  ExactHold kind = (c : YesNo) → LayoutOrSlenderness (yesNo c) → Among c (yesNoOf kind) → omitted m (yesNo c) ≡ false → Holds m (forcesOf m) (yesNo c)
+  ExactHold kind = (c : YesNoCheck) → LayoutOrSlenderness (yesNo c) → Among c (yesNoChecks kind) → omitted m (yesNo c) ≡ false → Holds m (forcesOf m) (yesNo c)
 
   module _ {kind : Kind} (ranges : RangesOf kind m) where
     -- a row with a joint is of kind 1
@@ -65,7 +65,7 @@ module _ (m : Member) where
         by false e = refl
 
     -- the layout of a joint holds
-    laid-out : Among layout (yesNoOf kind) → ExactHold kind → m .jointed ≡ true → LaidOut m
+    laid-out : Among layout (yesNoChecks kind) → ExactHold kind → m .jointed ≡ true → LaidOut m
     laid-out a hold e = record { joint = ranges .joint e; layout = hold layout (lit≤ tt) a (rw e refl) }
 
     -- the ranges of both struts
@@ -74,7 +74,7 @@ module _ (m : Member) where
     struts-in has acrossWidth = record { length = ranges .braced has .lb; side = in-wide 20 2500 (lit≤ tt) (lit≤ tt) (ranges .sized .section .width) }
 
     -- slenderness holds across the height or the width, where the row has that check
-    steady : (across : Across) → required kind 11 ≡ true → Among (slenderness across) (yesNoOf kind) → omitted m (yesNo (slenderness across)) ≡ false → ExactHold kind → Steady (limitOf m) (strutOf m across)
+    steady : (across : Across) → required kind 11 ≡ true → Among (slenderness across) (yesNoChecks kind) → omitted m (yesNo (slenderness across)) ≡ false → ExactHold kind → Steady (limitOf m) (strutOf m across)
     steady across has a kept hold =
         record { ranges = struts-in has across; most = ranges .braced has .limit; slender = hold (slenderness across) (slenderness-low across) a kept }
 
@@ -83,7 +83,7 @@ module _ (m : Member) where
   not-row-4 low = ne-eqb (m .table16) 4 (λ e. omega arith)
 
   -- each strength check of an accepted row has what it relies on
-  pub relied-on : (kind : Kind) → RangesOf kind m → ExactHold kind → (c : Strength) → Among c (strengthOf kind) → omitted m (strength c) ≡ false → ReliesOn m c
+  pub relied-on : (kind : Kind) → RangesOf kind m → ExactHold kind → (c : StrengthCheck) → Among c (strengthChecks kind) → omitted m (strength c) ≡ false → ReliesOn m c
   relied-on Tension ranges hold c (inl e) kept = rw e (laid-out ranges (inl refl) hold)
   relied-on Tension ranges hold c (inr (inl e)) kept = rw e (laid-out ranges (inl refl) hold (not-false _ (rw e at kept)))
   relied-on Tension ranges hold c (inr (inr a)) kept = absurd a

@@ -9,7 +9,7 @@ use Rattle.rounding.proofs.FractionLaws.{whole-rounds}
 use Rattle.sp64.proofs.Checks.{tension-sound, net-tension-sound, side-piece-sound, bending-sound, shear-sound, buckling-sound, compression-bending-sound, tension-bending-sound}
 use Rattle.sp64.proofs.JointLaws.{count-above, count-below, joint-length-pass, joint-length-fail}
 use Rattle.cells.specs.Greatest.{Among}
-use Rattle.member.specs.Checks.{Check, Strength, strength, yesNoOf, strengthOf, omitted, netTension, sidePieces, bending, shear, buckling, compressionBending, tensionBending}
+use Rattle.member.specs.Checks.{Check, StrengthCheck, strength, yesNoChecks, strengthChecks, omitted, netTension, sidePieces, bending, shear, buckling, compressionBending, tensionBending}
 use Rattle.member.specs.Ranges.{Sized, RangesOf}
 use Rattle.member.specs.Unrounded.{Forces, forcesOf}
 use Rattle.member.specs.declared.kind.Kind.{Kind}
@@ -24,7 +24,7 @@ abbrev pub soundFrom : Check → ℕ
 soundFrom c = 1003
 
 -- the force that check c takes from f rounds up to its cell; check 11 is sound at the cells themselves
-abbrev RoundsUpFor : Member → Forces → Strength → Type 0
+abbrev RoundsUpFor : Member → Forces → StrengthCheck → Type 0
 RoundsUpFor m f netTension = RoundsUpTo (m .force) (f .N)
 RoundsUpFor m f sidePieces = RoundsUpTo (m .force) (f .N)
 RoundsUpFor m f bending = RoundsUpTo (m .moment) (f .M)
@@ -34,7 +34,7 @@ RoundsUpFor m f compressionBending = f ≡ forcesOf m
 RoundsUpFor m f tensionBending = f ≡ forcesOf m
 
 -- the forces of the cells do
-cells-round : (m : Member) (c : Strength) → RoundsUpFor m (forcesOf m) c
+cells-round : (m : Member) (c : StrengthCheck) → RoundsUpFor m (forcesOf m) c
 cells-round m netTension = whole-rounds (m .force)
 cells-round m sidePieces = whole-rounds (m .force)
 cells-round m bending = whole-rounds (m .moment)
@@ -53,7 +53,7 @@ module _ (m : Member) (f : Forces) (here : Sized m) where
       by false e = rw e (tension-sound (here .material) (here .section) up)
 
   -- a strength check that has what it relies on
-  sound-strength : (c : Strength) → RoundsUpFor m f c → ReliesOn m c → StrengthSound m f soundFrom c
+  sound-strength : (c : StrengthCheck) → RoundsUpFor m f c → ReliesOn m c → StrengthSound m f soundFrom c
   sound-strength netTension up laid = net-tension up laid
   sound-strength sidePieces up laid = side-piece-sound (here .material) (here .section) up (laid .joint) (laid .layout)
   sound-strength bending up on = bending-sound (here .material) (here .section) up
@@ -65,12 +65,12 @@ module _ (m : Member) (f : Forces) (here : Sized m) where
 
 module _ (m : Member) where
   -- layout and slenderness round nothing
-  hold-exactly : (kind : Kind) → AllHold m (yesNoOf kind) → ExactHold m kind
+  hold-exactly : (kind : Kind) → AllHold m (yesNoChecks kind) → ExactHold m kind
   hold-exactly kind all c low a kept = exact m (forcesOf m) c low .0 (all c a kept)
 
   -- the strength checks of a row at forces that round up to its cells
-  strength-row : {kind : Kind} → RangesOf kind m → (f : Forces) → ((c : Strength) → Among c (strengthOf kind) → RoundsUpFor m f c)
-      → AllHold m (yesNoOf kind) → (c : Strength) → Among c (strengthOf kind) → omitted m (strength c) ≡ false → StrengthSound m f soundFrom c
+  strength-row : {kind : Kind} → RangesOf kind m → (f : Forces) → ((c : StrengthCheck) → Among c (strengthChecks kind) → RoundsUpFor m f c)
+      → AllHold m (yesNoChecks kind) → (c : StrengthCheck) → Among c (strengthChecks kind) → omitted m (strength c) ≡ false → StrengthSound m f soundFrom c
   strength-row {kind} ranges f up all c a kept =
       sound-strength m f (ranges .sized) c (up c a) (relied-on m kind ranges (hold-exactly kind all) c a kept)
 
@@ -97,7 +97,7 @@ module _ (m : Member) where
         count-below = λ j k big n least. absurd (clash j without);
       }
     where
-      up : (c : Strength) → Among c (strengthOf Bending) → RoundsUpFor m f c
+      up : (c : StrengthCheck) → Among c (strengthChecks Bending) → RoundsUpFor m f c
       up c (inl at) = rw at upM
       up c (inr (inl at)) = rw at upQ
       up c (inr (inr a)) = absurd a

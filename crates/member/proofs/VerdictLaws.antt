@@ -10,7 +10,7 @@ use mathlib.Core.List.{List, [], _∷_, _++_}
 use borrow.Author.Tests.{not-true}
 use Rattle.cells.specs.Greatest.{Among}
 use Rattle.cells.proofs.GreatestLaws.{FirstGreatest, Found, among-cases, greatest-among, greatest-above, greatest-meaning}
-use Rattle.member.specs.Checks.{YesNo, Strength, yesNo, strength, number, yesNoOf, strengthOf, omitted, netTension, bending, shear, buckling}
+use Rattle.member.specs.Checks.{YesNoCheck, StrengthCheck, yesNo, strength, checkNumber, yesNoChecks, strengthChecks, omitted, netTension, bending, shear, buckling}
 use Rattle.member.specs.Member.{acrossHeight, countOf}
 use Rattle.member.specs.Verdict.{holds, utilisationOf, used, governedBy, hasStrength, governing, byStrength, countOnFail, failedOn, judgeBy}
 use Rattle.member.specs.declared.kind.Kind.{Kind}
@@ -48,21 +48,21 @@ module _ {A : Type 0} (num : A → ℕ) where
       let q′ : num y ≡ num z = ap num q in absurd (omega (arith, below-among z list (rising .0) x a))
   rising-same (z ∷ list) rising x y (inr a) (inr b) e = rising-same list (rising .1) x y a b e
 
-abbrev pub yesNoNumber : YesNo → ℕ
-yesNoNumber c = number (yesNo c)
+abbrev pub yesNoNumber : YesNoCheck → ℕ
+yesNoNumber c = checkNumber (yesNo c)
 
-abbrev pub strengthNumber : Strength → ℕ
-strengthNumber c = number (strength c)
+abbrev pub strengthNumber : StrengthCheck → ℕ
+strengthNumber c = checkNumber (strength c)
 
 -- the checks of a kind are listed by rising number
-pub yes-no-rising : (kind : Kind) → Rising yesNoNumber (yesNoOf kind)
+pub yes-no-rising : (kind : Kind) → Rising yesNoNumber (yesNoChecks kind)
 yes-no-rising Tension = omega arith
 yes-no-rising Bending = tt
 yes-no-rising Compression = omega arith
 yes-no-rising CompressionBending = omega arith
 yes-no-rising TensionBending = omega arith
 
-pub strength-rising : (kind : Kind) → Rising strengthNumber (strengthOf kind)
+pub strength-rising : (kind : Kind) → Rising strengthNumber (strengthChecks kind)
 strength-rising Tension = omega arith
 strength-rising Bending = omega arith
 strength-rising Compression = omega arith
@@ -83,23 +83,23 @@ both-false false y e = (refl, e)
 
 module _ (m : Member) where
   -- every check of the list that the row has holds
-  abbrev pub AllHold : List YesNo → Type 0
-  AllHold checks = (c : YesNo) → Among c checks → omitted m (yesNo c) ≡ false → holds m c ≡ true
+  abbrev pub AllHold : List YesNoCheck → Type 0
+  AllHold checks = (c : YesNoCheck) → Among c checks → omitted m (yesNo c) ≡ false → holds m c ≡ true
 
   -- check c is the first of the list to fail
-  pub record FirstFailing (checks : List YesNo) (c : YesNo) : Type 0 where
+  pub record FirstFailing (checks : List YesNoCheck) (c : YesNoCheck) : Type 0 where
     pub among : Among c checks
     pub kept : omitted m (yesNo c) ≡ false
     pub fails : holds m c ≡ false
-    pub before : (d : YesNo) → Among d checks → yesNoNumber d < yesNoNumber c → omitted m (yesNo d) ≡ false → holds m d ≡ true
+    pub before : (d : YesNoCheck) → Among d checks → yesNoNumber d < yesNoNumber c → omitted m (yesNo d) ≡ false → holds m d ≡ true
 
   -- either all hold, and the verdict is the one by strength, or the first to fail gives it
-  abbrev pub Outcome : List YesNo → Verdict → Type 0
-  Outcome checks v =
+  abbrev pub ListOutcome : List YesNoCheck → Verdict → Type 0
+  ListOutcome checks v =
       (AllHold checks × (judgeBy m checks v ≡ v))
-      ⊎ ((c : YesNo) × FirstFailing checks c × (judgeBy m checks v ≡ failedOn (number (yesNo c)) (countOnFail m c)))
+      ⊎ ((c : YesNoCheck) × FirstFailing checks c × (judgeBy m checks v ≡ failedOn (checkNumber (yesNo c)) (countOnFail m c)))
 
-  pub judge-meaning : (checks : List YesNo) → Rising yesNoNumber checks → (v : Verdict) → Outcome checks v
+  pub judge-meaning : (checks : List YesNoCheck) → Rising yesNoNumber checks → (v : Verdict) → ListOutcome checks v
   unfolding judgeBy
   judge-meaning [] rising v = inl (λ c a. absurd a, refl)
   judge-meaning (x ∷ checks) rising v = by (omitted m (yesNo x) || holds m x) refl (judge-meaning checks (rising .1) v)
@@ -108,16 +108,16 @@ module _ (m : Member) where
       all t h c (inl e) kept = rw e (other-true _ _ t (rw e at kept))
       all t h c (inr a) kept = h c a kept
 
-      before : omitted m (yesNo x) || holds m x ≡ true → (c : YesNo) → FirstFailing checks c
-          → (d : YesNo) → Among d (x ∷ checks) → yesNoNumber d < yesNoNumber c → omitted m (yesNo d) ≡ false → holds m d ≡ true
+      before : omitted m (yesNo x) || holds m x ≡ true → (c : YesNoCheck) → FirstFailing checks c
+          → (d : YesNoCheck) → Among d (x ∷ checks) → yesNoNumber d < yesNoNumber c → omitted m (yesNo d) ≡ false → holds m d ≡ true
       before t c f d (inl e) lt kept = rw e (other-true _ _ t (rw e at kept))
       before t c f d (inr a) lt kept = f .before d a lt kept
 
-      none : (d : YesNo) → Among d (x ∷ checks) → yesNoNumber d < yesNoNumber x → holds m d ≡ true
+      none : (d : YesNoCheck) → Among d (x ∷ checks) → yesNoNumber d < yesNoNumber x → holds m d ≡ true
       none d (inl e) lt = let same : yesNoNumber d ≡ yesNoNumber x = ap yesNoNumber e in absurd (omega arith)
       none d (inr a) lt = absurd (omega (arith, below-among yesNoNumber x checks (rising .0) d a))
 
-      by : (t : Bool) → omitted m (yesNo x) || holds m x ≡ t → Outcome checks v → Outcome (x ∷ checks) v
+      by : (t : Bool) → omitted m (yesNo x) || holds m x ≡ t → ListOutcome checks v → ListOutcome (x ∷ checks) v
       by true t (inl (h, e)) = inl (all t h, rw t e)
       by true t (inr (c, f, e)) =
           inr (c, record { among = inr (f .among); kept = f .kept; fails = f .fails; before = before t c f }, rw t e)
@@ -126,17 +126,17 @@ module _ (m : Member) where
           inr (x, record { among = inl refl; kept = both .0; fails = both .1; before = λ d a lt kept. none d a lt }, rw t refl)
 
   -- check c governs the list: none that the row has is above it, and of those equal to it none has a lower number
-  pub record Governs (checks : List Strength) (c : Strength) : Type 0 where
+  pub record Governs (checks : List StrengthCheck) (c : StrengthCheck) : Type 0 where
     pub among : Among c checks
     pub kept : omitted m (strength c) ≡ false
-    pub greatest : (d : Strength) → Among d checks → omitted m (strength d) ≡ false → utilisationOf m d ≤ utilisationOf m c
-    pub lowest : (d : Strength) → Among d checks → omitted m (strength d) ≡ false → utilisationOf m d ≡ utilisationOf m c → strengthNumber c ≤ strengthNumber d
+    pub greatest : (d : StrengthCheck) → Among d checks → omitted m (strength d) ≡ false → utilisationOf m d ≤ utilisationOf m c
+    pub lowest : (d : StrengthCheck) → Among d checks → omitted m (strength d) ≡ false → utilisationOf m d ≡ utilisationOf m c → strengthNumber c ≤ strengthNumber d
 
-  abbrev Chosen : List Strength → Strength → Type 0
+  abbrev Chosen : List StrengthCheck → StrengthCheck → Type 0
   Chosen = FirstGreatest (hasStrength m) (utilisationOf m)
 
   -- the first among equals has the lowest number, since the numbers rise
-  chosen-governs : (checks : List Strength) → Rising strengthNumber checks → (c : Strength) → Chosen checks c → Governs checks c
+  chosen-governs : (checks : List StrengthCheck) → Rising strengthNumber checks → (c : StrengthCheck) → Chosen checks c → Governs checks c
   chosen-governs checks rising c f =
       record {
         among = greatest-among (hasStrength m) (utilisationOf m) checks c f;
@@ -145,30 +145,30 @@ module _ (m : Member) where
         lowest = λ d a kept same. by d kept same (among-cases (f .front) c (f .back) d (rw (f .splits) at a));
       }
     where
-      by : (d : Strength) → omitted m (strength d) ≡ false → utilisationOf m d ≡ utilisationOf m c
+      by : (d : StrengthCheck) → omitted m (strength d) ≡ false → utilisationOf m d ≡ utilisationOf m c
           → Among d (f .front) ⊎ ((d ≡ c) ⊎ Among d (f .back)) → strengthNumber c ≤ strengthNumber d
       by d kept same (inl a) = let below : utilisationOf m d < utilisationOf m c = f .before d a (rw kept refl) in absurd (omega arith)
       by d kept same (inr (inl e)) = rw e (le-refl (strengthNumber c))
       by d kept same (inr (inr a)) = le-of-lt (rising-after strengthNumber (f .front) c (f .back) (rw (f .splits) at rising) d a)
 
-  first-kept : (checks : List Strength) → Rising strengthNumber checks → (d : Strength) → Among d checks → omitted m (strength d) ≡ false → (c : Strength) × Governs checks c × (governing m checks ≡ used m c)
+  first-kept : (checks : List StrengthCheck) → Rising strengthNumber checks → (d : StrengthCheck) → Among d checks → omitted m (strength d) ≡ false → (c : StrengthCheck) × Governs checks c × (governing m checks ≡ used m c)
   first-kept checks rising d a kept = by (greatest-meaning (hasStrength m) (utilisationOf m) checks)
     where
-      by : Found (hasStrength m) (utilisationOf m) checks → (c : Strength) × Governs checks c × (governing m checks ≡ used m c)
+      by : Found (hasStrength m) (utilisationOf m) checks → (c : StrengthCheck) × Governs checks c × (governing m checks ≡ used m c)
       by (inl (skipped, e)) = absurd (clash (rw kept refl) (skipped d a))
       by (inr (c, f, e)) = (c, chosen-governs checks rising c f, ap (governedBy m) e)
 
   -- every kind has a check that governs
-  pub governs : (kind : Kind) → (c : Strength) × Governs (strengthOf kind) c × (governing m (strengthOf kind) ≡ used m c)
-  governs Tension = first-kept (strengthOf Tension) (strength-rising Tension) netTension (inl refl) refl
-  governs Bending = first-kept (strengthOf Bending) (strength-rising Bending) bending (inl refl) refl
-  governs Compression = first-kept (strengthOf Compression) (strength-rising Compression) (buckling acrossHeight) (inl refl) refl
-  governs CompressionBending = first-kept (strengthOf CompressionBending) (strength-rising CompressionBending) shear (inl refl) refl
-  governs TensionBending = first-kept (strengthOf TensionBending) (strength-rising TensionBending) shear (inl refl) refl
+  pub governs : (kind : Kind) → (c : StrengthCheck) × Governs (strengthChecks kind) c × (governing m (strengthChecks kind) ≡ used m c)
+  governs Tension = first-kept (strengthChecks Tension) (strength-rising Tension) netTension (inl refl) refl
+  governs Bending = first-kept (strengthChecks Bending) (strength-rising Bending) bending (inl refl) refl
+  governs Compression = first-kept (strengthChecks Compression) (strength-rising Compression) (buckling acrossHeight) (inl refl) refl
+  governs CompressionBending = first-kept (strengthChecks CompressionBending) (strength-rising CompressionBending) shear (inl refl) refl
+  governs TensionBending = first-kept (strengthChecks TensionBending) (strength-rising TensionBending) shear (inl refl) refl
 
   -- how the verdict comes about
   abbrev pub VerdictOutcome : Type 0
-  VerdictOutcome = Outcome (yesNoOf (m .kind)) (byStrength (governing m (strengthOf (m .kind))) (countOf m))
+  VerdictOutcome = ListOutcome (yesNoChecks (m .kind)) (byStrength (governing m (strengthChecks (m .kind))) (countOf m))
 
   pub verdict-outcome : VerdictOutcome
-  verdict-outcome = judge-meaning (yesNoOf (m .kind)) (yes-no-rising (m .kind)) (byStrength (governing m (strengthOf (m .kind))) (countOf m))
+  verdict-outcome = judge-meaning (yesNoChecks (m .kind)) (yes-no-rising (m .kind)) (byStrength (governing m (strengthChecks (m .kind))) (countOf m))

@@ -20,7 +20,7 @@ use Rattle.sp64.specs.Combined.{axialShare, secondOrderMoment, combined, compre
 use Rattle.sp64.specs.declared.tables.Stress.the-variants.{Compression}
 use Rattle.sp64.proofs.JointLaws.{count-in}
 use Rattle.member.specs.Acceptance.{acceptKind, accept}
-use Rattle.member.specs.Checks.{Check, YesNo, Strength, yesNo, strength, number, layout, slenderness, jointLength, netTension, sidePieces, bending, shear, buckling, compressionBending, tensionBending}
+use Rattle.member.specs.Checks.{Check, YesNoCheck, StrengthCheck, yesNo, strength, checkNumber, layout, slenderness, jointLength, netTension, sidePieces, bending, shear, buckling, compressionBending, tensionBending}
 use Rattle.member.specs.EdgeRows.{mostDowels, mostUsed}
 use Rattle.member.specs.Member.{acrossHeight, acrossWidth, strutOf, countOf, NRof, MRof}
 use Rattle.member.specs.Ranges.{RangesOf}
@@ -37,7 +37,7 @@ pub record VerdictRange (v : Verdict) : Type 0 where
   pub utilisation : v .utilisation ≤ 9999999
   pub count : v .count ≤ 6988121
 
-number-in : (c : Check) → In 1 11 (number c)
+number-in : (c : Check) → In 1 11 (checkNumber c)
 number-in (yesNo layout) = omega arith
 number-in (yesNo (slenderness acrossHeight)) = omega arith
 number-in (yesNo (slenderness acrossWidth)) = omega arith
@@ -61,7 +61,7 @@ combined-most N M NR C MR = by (leb 1000000 (axialShare N C))
 
 module _ (m : Member) where
   -- every utilisation is capped
-  utilisation-most : (c : Strength) → utilisationOf m c ≤ 9999999
+  utilisation-most : (c : StrengthCheck) → utilisationOf m c ≤ 9999999
   utilisation-most netTension = min-le-left 9999999 _
   utilisation-most sidePieces = min-le-left 9999999 _
   utilisation-most bending = min-le-left 9999999 _
@@ -79,7 +79,7 @@ module _ (m : Member) where
       by true e = let j = joined m ranges e in rw e (count-in (j .force) (j .sized .section .width) (j .joint) (j .sized .material) .high)
       by false e = rw e (lit≤ tt)
 
-  fail-count-most : RangesOf (m .kind) m → (c : YesNo) → countOnFail m c ≤ 6988121
+  fail-count-most : RangesOf (m .kind) m → (c : YesNoCheck) → countOnFail m c ≤ 6988121
   fail-count-most ranges layout = lit≤ tt
   fail-count-most ranges (slenderness across) = lit≤ tt
   fail-count-most ranges jointLength = count-most ranges

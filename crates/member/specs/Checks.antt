@@ -12,56 +12,56 @@ use Rattle.member.specs.declared.kind.Kind.the-variants.{Tension, Bendin
 use Rattle.member.specs.declared.member.Member.{Member}
 
 -- the yes-or-no checks
-pub data YesNo : Type 0 where
-  layout : YesNo
-  slenderness : Across → YesNo
-  jointLength : YesNo
+pub data YesNoCheck : Type 0 where
+  layout : YesNoCheck
+  slenderness : Across → YesNoCheck
+  jointLength : YesNoCheck
 
 -- the strength checks; check 11 of kind 4 and of kind 5
-pub data Strength : Type 0 where
-  netTension : Strength
-  sidePieces : Strength
-  bending : Strength
-  shear : Strength
-  buckling : Across → Strength
-  compressionBending : Strength
-  tensionBending : Strength
+pub data StrengthCheck : Type 0 where
+  netTension : StrengthCheck
+  sidePieces : StrengthCheck
+  bending : StrengthCheck
+  shear : StrengthCheck
+  buckling : Across → StrengthCheck
+  compressionBending : StrengthCheck
+  tensionBending : StrengthCheck
 
 -- a check
 pub data Check : Type 0 where
-  yesNo : YesNo → Check
-  strength : Strength → Check
+  yesNo : YesNoCheck → Check
+  strength : StrengthCheck → Check
 
 -- document 01's number of a check
-abbrev pub number : Check → ℕ
-number (yesNo layout) = 1
-number (yesNo (slenderness acrossHeight)) = 2
-number (yesNo (slenderness acrossWidth)) = 3
-number (yesNo jointLength) = 4
-number (strength netTension) = 5
-number (strength sidePieces) = 6
-number (strength bending) = 7
-number (strength shear) = 8
-number (strength (buckling acrossHeight)) = 9
-number (strength (buckling acrossWidth)) = 10
-number (strength compressionBending) = 11
-number (strength tensionBending) = 11
+abbrev pub checkNumber : Check → ℕ
+checkNumber (yesNo layout) = 1
+checkNumber (yesNo (slenderness acrossHeight)) = 2
+checkNumber (yesNo (slenderness acrossWidth)) = 3
+checkNumber (yesNo jointLength) = 4
+checkNumber (strength netTension) = 5
+checkNumber (strength sidePieces) = 6
+checkNumber (strength bending) = 7
+checkNumber (strength shear) = 8
+checkNumber (strength (buckling acrossHeight)) = 9
+checkNumber (strength (buckling acrossWidth)) = 10
+checkNumber (strength compressionBending) = 11
+checkNumber (strength tensionBending) = 11
 
 -- the yes-or-no checks of a kind, in the order in which they are taken
-abbrev pub yesNoOf : Kind → List YesNo
-yesNoOf Tension = layout ∷ slenderness acrossHeight ∷ slenderness acrossWidth ∷ jointLength ∷ []
-yesNoOf Bending = []
-yesNoOf Compression = slenderness acrossHeight ∷ slenderness acrossWidth ∷ []
-yesNoOf CompressionBending = slenderness acrossHeight ∷ slenderness acrossWidth ∷ []
-yesNoOf TensionBending = slenderness acrossHeight ∷ slenderness acrossWidth ∷ []
+abbrev pub yesNoChecks : Kind → List YesNoCheck
+yesNoChecks Tension = layout ∷ slenderness acrossHeight ∷ slenderness acrossWidth ∷ jointLength ∷ []
+yesNoChecks Bending = []
+yesNoChecks Compression = slenderness acrossHeight ∷ slenderness acrossWidth ∷ []
+yesNoChecks CompressionBending = slenderness acrossHeight ∷ slenderness acrossWidth ∷ []
+yesNoChecks TensionBending = slenderness acrossHeight ∷ slenderness acrossWidth ∷ []
 
 -- the strength checks of a kind, the lowest number first
-abbrev pub strengthOf : Kind → List Strength
-strengthOf Tension = netTension ∷ sidePieces ∷ []
-strengthOf Bending = bending ∷ shear ∷ []
-strengthOf Compression = buckling acrossHeight ∷ buckling acrossWidth ∷ []
-strengthOf CompressionBending = shear ∷ buckling acrossHeight ∷ buckling acrossWidth ∷ compressionBending ∷ []
-strengthOf TensionBending = shear ∷ tensionBending ∷ []
+abbrev pub strengthChecks : Kind → List StrengthCheck
+strengthChecks Tension = netTension ∷ sidePieces ∷ []
+strengthChecks Bending = bending ∷ shear ∷ []
+strengthChecks Compression = buckling acrossHeight ∷ buckling acrossWidth ∷ []
+strengthChecks CompressionBending = shear ∷ buckling acrossHeight ∷ buckling acrossWidth ∷ compressionBending ∷ []
+strengthChecks TensionBending = shear ∷ tensionBending ∷ []
 
 -- the checks of a kind that a row does without: 1, 4 and 6 if it has no joint, 3 in row 4 of Table 16
 abbrev pub omitted : Member → Check → Bool
@@ -80,8 +80,8 @@ omitted m (strength tensionBending) = false
 
 -- a check of the kind
 abbrev pub OfKind : Kind → Check → Type 0
-OfKind kind (yesNo c) = Among c (yesNoOf kind)
-OfKind kind (strength c) = Among c (strengthOf kind)
+OfKind kind (yesNo c) = Among c (yesNoChecks kind)
+OfKind kind (strength c) = Among c (strengthChecks kind)
 
 -- check c is one of the row's: of its kind, and not omitted
 pub record Has (m : Member) (c : Check) : Type 0 where

@@ -10,7 +10,7 @@ use Rattle.cells.specs.declared.row.Cell.{Cell}
 use Rattle.rounding.specs.Fraction.{Fraction, scaled}
 use Rattle.sp64.specs.Joint.{LeastCount}
 use Rattle.member.specs.Acceptance.{accept}
-use Rattle.member.specs.Checks.{Check, yesNo, jointLength, number, Has}
+use Rattle.member.specs.Checks.{Check, yesNo, jointLength, checkNumber, Has}
 use Rattle.member.specs.Unrounded.{Forces, forcesOf, times, Holds}
 use Rattle.member.specs.declared.member.Member.{Member}
 use Rattle.member.specs.declared.verdict.Answer.{Answer}
@@ -33,17 +33,17 @@ EachFrom least k = (c : Check) → least c ≤ k c
 -- the verdict is a fail and names check c
 pub record FailsOn (v : Verdict) (c : Check) : Type 0 where
   pub fails : v .passes ≡ false
-  pub names : v .check ≡ number c
+  pub names : v .check ≡ checkNumber c
 
 -- checks 1 to 3 are layout and slenderness; joint length is check 4, and strength the rest
 abbrev pub LayoutOrSlenderness : Check → Type 0
-LayoutOrSlenderness c = number c ≤ 3
+LayoutOrSlenderness c = checkNumber c ≤ 3
 
 -- check c is the first of the row's that fails unrounded
 pub record FirstToFail (m : Member) (f : Forces) (c : Check) : Type 0 where
   pub has : Has m c
   pub fails : Holds m f c → ⊥
-  pub before : (d : Check) → Has m d → number d < number c → Holds m f d
+  pub before : (d : Check) → Has m d → checkNumber d < checkNumber c → Holds m f d
 
 -- the unrounded least count for a force
 abbrev pub CountFor : Member → Fraction → ℕ → Type 0
@@ -52,7 +52,7 @@ CountFor m N = LeastCount N (m .width) (m .joint) (m .material)
 -- demand 3 for forces f and a factor of k c thousandths for each check c
 pub record Demand3At (m : Member) (f : Forces) (v : Verdict) (k : Check → ℕ) : Type 0 where
   -- the verdict names a check that the row has
-  pub named : (c : Check) × Has m c × (v .check ≡ number c)
+  pub named : (c : Check) × Has m c × (v .check ≡ checkNumber c)
   -- a pass means that every check the row has holds with nothing rounded
   pub pass : v .passes ≡ true → (c : Check) → Has m c → Holds m f c
   -- a row fails on layout or slenderness exactly when one of these fails unrounded, and the first such is named

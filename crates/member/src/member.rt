@@ -3,7 +3,7 @@ use crate::kind::Kind;
 use sp64::joint::Joint;
 use sp64::strength::Material;
 
-// Cells 1 to 22 by name. A field that the kind does not fill is 0.
+// The cells of a row by name. A field that the kind does not fill is 0.
 pub struct Member {
     pub kind: Kind,
     // cells 2 to 5

@@ -12,7 +12,7 @@ use lib.Dec.{eqb}
 use lib.Arith.{digits-lt}
 use lib.Bits.{bitAnd, and-mask}
 use lib.Pow.{pow-pos, pow-lt, pow-add, shr-shr, field, mod-mod-pow, mod-pow-add, high, low}
-use Rattle.packed.specs.Bits.{bits, digit, number, Bytes, bitsOf, bytesOf}
+use Rattle.packed.specs.Bits.{bits, bitValue, number, Bytes, bitsOf, bytesOf}
 
 -- ---- the digits of a number
 
@@ -88,13 +88,13 @@ pub number-bits : (k v : ℕ) (bs : List Bool) → number k (bits k v ++ bs) ≡
 unfolding number bits
 number-bits zero v bs = sym (mod-one v)
 number-bits (suc k) v bs =
-    rw (number-bits k v bs, digit-of (v / 2 ^ k % 2) (omega arith))
+    rw (number-bits k v bs, bitValue-of (v / 2 ^ k % 2) (omega arith))
     (sym (mod-pow-add v 1 k) ∙ ap (λ (n : ℕ). v % 2 ^ n) (omega arith))
   where
-    digit-of : (x : ℕ) → x < 2 → digit (eqb x 1) ≡ x
-    digit-of zero h = refl
-    digit-of (suc zero) h = refl
-    digit-of (suc (suc x)) h = absurd (omega arith)
+    bitValue-of : (x : ℕ) → x < 2 → bitValue (eqb x 1) ≡ x
+    bitValue-of zero h = refl
+    bitValue-of (suc zero) h = refl
+    bitValue-of (suc (suc x)) h = absurd (omega arith)
 
 -- the digits of the number that k bits write are these bits
 pub bits-number : (k : ℕ) (bs : List Bool) → k ≤ length bs → bits k (number k bs) ≡ take k bs
@@ -103,13 +103,13 @@ bits-number zero bs h = refl
 bits-number (suc k) [] h = absurd (omega arith)
 bits-number (suc k) (b ∷ bs) h =
     rw (
-      high (digit b) k (number-lt k bs),
-      bits-low k (digit b) (number k bs) (number-lt k bs),
+      high (bitValue b) k (number-lt k bs),
+      bits-low k (bitValue b) (number k bs) (number-lt k bs),
       bit-of b,
       bits-number k bs (le-of-suc-le-suc h),
     )
   where
-    bit-of : (b : Bool) → eqb (digit b % 2) 1 ≡ b
+    bit-of : (b : Bool) → eqb (bitValue b % 2) 1 ≡ b
     bit-of true = refl
     bit-of false = refl
 

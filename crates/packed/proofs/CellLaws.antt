@@ -120,13 +120,13 @@ abbrev pub wideCell : ℕ → Cell → Bool
 wideCell n cell = tooWide cell
 
 -- no cell is too wide
-abbrev pub Narrow : List Cell → Type 0
-Narrow cells = (i : ℕ) → i < length cells → tooWide (getD cells i Blank) ≡ false
+abbrev pub NoneTooWide : List Cell → Type 0
+NoneTooWide cells = (i : ℕ) → i < length cells → tooWide (getD cells i Blank) ≡ false
 
 -- where none is found too wide, none is
-pub narrow-cells : (cells : List Cell) → lowestWide cells ≡ 0 → Narrow cells
+pub narrow-cells : (cells : List Cell) → lowestWide cells ≡ 0 → NoneTooWide cells
 narrow-cells cells none = by (lowest-meaning wideCell 1 cells)
   where
-    by : Passes wideCell 1 cells ⊎ ((k : ℕ) × FailsAt wideCell 1 cells k) → Narrow cells
+    by : Passes wideCell 1 cells ⊎ ((k : ℕ) × FailsAt wideCell 1 cells k) → NoneTooWide cells
     by (inl passes) i h = passes .all i Blank h
     by (inr (k, fails)) i h = absurd (omega (arith, fails .found, none))

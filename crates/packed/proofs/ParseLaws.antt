@@ -19,13 +19,13 @@ use Rattle.packed.specs.Bits.{bits, number}
 use Rattle.packed.specs.Packing.{cellBits, rowBits}
 use Rattle.packed.specs.Unpacking.{before, parse, anySet}
 use Rattle.packed.proofs.BitLaws.{length-bits, number-bits, number-front, number-lt, bits-number}
-use Rattle.packed.proofs.CellLaws.{wideCell, narrow-lt, Narrow}
+use Rattle.packed.proofs.CellLaws.{wideCell, narrow-lt, NoneTooWide}
 
 -- ---- there
 
 -- the bits of narrow cells, whatever follows them, parse to these cells
 pub parse-cells : (cells : List Cell) (i : ℕ) (rest : List Bool)
-    → Narrow cells
+    → NoneTooWide cells
     → parse (length cells) i (rowBits cells ++ rest) ≡ gives (cells, rest)
 unfolding parse rowBits before cellBits
 parse-cells [] i rest narrow = refl

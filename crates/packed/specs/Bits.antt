@@ -12,15 +12,15 @@ bits zero v = []
 bits (suc k) v = eqb (v / 2 ^ k % 2) 1 ∷ bits k v
 
 -- a bit as a number
-abbrev pub digit : Bool → ℕ
-digit true = 1
-digit false = 0
+abbrev pub bitValue : Bool → ℕ
+bitValue true = 1
+bitValue false = 0
 
 -- the number that the first k of bs write, with 0 for those past the end
 unfoldable pub number : ℕ → List Bool → ℕ
 number zero bs = 0
 number (suc k) [] = 0
-number (suc k) (b ∷ bs) = digit b * 2 ^ k + number k bs
+number (suc k) (b ∷ bs) = bitValue b * 2 ^ k + number k bs
 
 -- every element is a byte, as it is in every lent slice of bytes: clause `back` of `unpack_row` (codec/src/unpack.rt) asks for no such premise
 abbrev pub Bytes : List ℕ → Type 0

@@ -7,7 +7,7 @@ use Prim.Native.Nat.{ℕ, _+_, _<_}
 use lib.ListN.{length, getD, drop, length-map, List·getD-map}
 use Rattle.cells.specs.Lowest.{lowest}
 use Rattle.worksheet.specs.Reading.{readCell, isUnreadable, cellRead}
-use Rattle.reading.specs.Answers.{refusedRow}
+use Rattle.reading.specs.Answers.{refusedReading}
 use Rattle.cells.specs.Refusal.{Result, gives, refusedBy, resultOf, valueOr}
 use Rattle.cells.specs.Row.{cellCount, cellsOf, rowOf, blanks}
 use Rattle.worksheet.specs.declared.host_cell.Reading.{Reading}
@@ -24,15 +24,15 @@ use Rattle.cells.proofs.RowLaws.{cells-of-row}
 use Rattle.worksheet.proofs.ReadingLaws.{asRead}
 
 -- the answer says what the result is, and its row is blank where the result is a refusal
-abbrev pub Says : ReadRow → Result (List Cell) → Type 0
-Says answer result =
+abbrev pub ReadsAs : ReadRow → Result (List Cell) → Type 0
+ReadsAs answer result =
     (resultOf (answer .outcome) (cellsOf (answer .row)) ≡ result) × (cellsOf (answer .row) ≡ valueOr (blanks cellCount) result)
 
-pub says-refused : (answer : ReadRow) (refusal : Refusal) (result : Result (List Cell)) → answer ≡ refusedRow refusal → result ≡ refusedBy refusal
-    → Says answer result
+pub says-refused : (answer : ReadRow) (refusal : Refusal) (result : Result (List Cell)) → answer ≡ refusedReading refusal → result ≡ refusedBy refusal
+    → ReadsAs answer result
 says-refused answer refusal result e q = rw (e, q) (refl, refl)
 
-pub says-row : (cells : List Cell) (result : Result (List Cell)) → result ≡ gives cells → Says (record { outcome = Done; row = rowOf cells }) result
+pub says-row : (cells : List Cell) (result : Result (List Cell)) → result ≡ gives cells → ReadsAs (record { outcome = Done; row = rowOf cells }) result
 says-row cells result q = rw q (ap gives (cells-of-row cells), cells-of-row cells)
 
 -- whether a cell is unreadable, as the test of a search

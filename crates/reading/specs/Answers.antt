@@ -6,5 +6,5 @@ use Rattle.cells.specs.declared.refusal.Refusal.{Refusal}
 use Rattle.reading.specs.declared.host_cells.ReadRow.{ReadRow}
 
 -- an answer that refuses
-abbrev pub refusedRow : Refusal → ReadRow
-refusedRow refusal = record { outcome = Refused refusal; row = blankRow }
+abbrev pub refusedReading : Refusal → ReadRow
+refusedReading refusal = record { outcome = Refused refusal; row = blankRow }

@@ -13,7 +13,7 @@ ghost use mathlib.Core.Path.{_≡_};
 ghost use Rattle.cells.specs.Refusal.{resultOf, valueOr};
 ghost use Rattle.cells.specs.Row.{cellCount, cellsOf, blanks};
 ghost use Rattle.worksheet.specs.Reading.{readCell, readCells};
-ghost use Rattle.reading.specs.Answers.{refusedRow};
+ghost use Rattle.reading.specs.Answers.{refusedReading};
 
 // What reading answers: the row, or a refusal and a blank row.
 pub struct ReadRow {
@@ -22,7 +22,7 @@ pub struct ReadRow {
 }
 
 pub(crate) fn refused(refusal: Refusal) -> ReadRow
-    ensures { λ r. ⌜ r ≡ refusedRow refusal ⌝ }
+    ensures { λ r. ⌜ r ≡ refusedReading refusal ⌝ }
 {
     let row = blank_row();
     ReadRow {

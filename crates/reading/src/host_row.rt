@@ -2,6 +2,7 @@
 use crate::host_cells::ReadRow;
 use crate::host_cells::read_cell;
 use crate::host_cells::refused;
+use cells::bytes::byte_value;
 use cells::refusal::Outcome;
 use cells::refusal::Refusal;
 use cells::row::CELLS;
@@ -21,19 +22,15 @@ ghost use Rattle.worksheet.specs.HostRow.{hostCellBytes, hostCellAt, readHostRo
 // The bytes of a host's cell: one that says whether it is filled, and eight of the float.
 const CELL_BYTES: usize = 9;
 
-fn wide(byte: u8) -> u64
-    ensures { λ r. ⌜ (r ≡ byte) × (r < 256) ⌝ }
-{
-    byte as u64
-}
-
 // The four bytes from a place on as a number, lowest first.
 fn half_word_at(bytes: &[u8], at: usize) -> u64
     requires { ⌜ at + 4 ≤ length (now bytes) ⌝ }
     ensures { λ r. ⌜ (r ≡ halfWordAt (now (bytes .entry)) at) × (r < 2 ^ 32) ⌝ }
 {
-    wide(bytes[at])
-        + 256 * (wide(bytes[at + 1]) + 256 * (wide(bytes[at + 2]) + 256 * wide(bytes[at + 3])))
+    byte_value(bytes[at])
+        + 256
+            * (byte_value(bytes[at + 1])
+                + 256 * (byte_value(bytes[at + 2]) + 256 * byte_value(bytes[at + 3])))
 }
 
 // The eight bytes from a place on as a number, lowest first.
@@ -45,7 +42,7 @@ fn word_at(bytes: &[u8], at: usize) -> u64
 }
 
 // The float with these bits. Every pattern of a NaN is the one NaN.
-fn float_of(bits: u64) -> f64
+fn float_with_bits(bits: u64) -> f64
     ensures { λ r. ⌜ r ≡ ofBits binary64 bits ⌝ }
 {
     if 0x7ff0_0000_0000_0000 < bits % 0x8000_0000_0000_0000 {
@@ -64,7 +61,7 @@ fn host_cell_at(bytes: &[u8], at: usize) -> HostCell
         return HostCell::Blank;
     }
     if filled == 1 {
-        return HostCell::Number(float_of(word_at(bytes, at + 1)));
+        return HostCell::Number(float_with_bits(word_at(bytes, at + 1)));
     }
     HostCell::Number(0.0 / 0.0)
 }

@@ -5,7 +5,7 @@ ghost use mathlib.Core.Path.{_≡_};
 ghost use lib.Ieee.{binary64, ofBits};
 ghost use Rattle.worksheet.specs.Number.{readNumber};
 
-fn whole(number: u64) -> Reading
+fn read_whole(number: u64) -> Reading
     ensures { λ r. ⌜ r ≡ Reading.Read (Cell.Whole number) ⌝ }
 {
     Reading::Read(Cell::Whole(number))
@@ -17,7 +17,7 @@ fn read_bits(bits: u64) -> Reading
 {
     // 0 and −0
     if bits % 0x8000_0000_0000_0000 == 0 {
-        return whole(0);
+        return read_whole(0);
     }
     // below 0
     if 0x8000_0000_0000_0000 <= bits {
@@ -39,7 +39,7 @@ fn read_bits(bits: u64) -> Reading
     if number << places != digits {
         return Reading::Unreadable;
     }
-    whole(number)
+    read_whole(number)
 }
 
 // The reading of a float. A NaN, which differs from itself, has no bits to look at.

@@ -16,21 +16,21 @@ use Rattle.text.proofs.DecimalLaws.{decimal-room, decimal-most}
 use Rattle.text.proofs.TextLaws.{has-room, after}
 
 -- a line that holds a text of at most so many bytes
-pub record Holds (most : ℕ) (text : List ℕ) (line : Line) : Type 0 where
+pub record HoldsText (most : ℕ) (text : List ℕ) (line : Line) : Type 0 where
   pub is : line ≡ lineOf text
   pub short : length text ≤ most
 
 -- it has the room that these bytes leave
-pub room-left : {most : ℕ} {text : List ℕ} {line : Line} (n : ℕ) → Holds most text line → most + n ≤ lineRoom → HasRoom line n
+pub room-left : {most : ℕ} {text : List ℕ} {line : Line} (n : ℕ) → HoldsText most text line → most + n ≤ lineRoom → HasRoom line n
 room-left {text = text} n h fits = has-room text n (h .is) (omega (arith, h .short))
 
 -- more after its text
-pub holds-more : {most : ℕ} {text : List ℕ} {line longer : Line} (more : List ℕ) (n : ℕ) → length more ≤ n → Holds most text line
-    → longer ≡ lineOf (textOf line ++ more) → Holds (most + n) (text ++ more) longer
+pub holds-more : {most : ℕ} {text : List ℕ} {line longer : Line} (more : List ℕ) (n : ℕ) → length more ≤ n → HoldsText most text line
+    → longer ≡ lineOf (textOf line ++ more) → HoldsText (most + n) (text ++ more) longer
 holds-more {text = text} more n few h e = record { is = after text more (h .is) e; short = omega (arith, h .short, length-append text more) }
 
 -- nothing yet
-pub holds-none : {line : Line} → line ≡ lineOf [] → Holds 0 [] line
+pub holds-none : {line : Line} → line ≡ lineOf [] → HoldsText 0 [] line
 holds-none e = record { is = e; short = omega arith }
 
 -- a number of 64 bits

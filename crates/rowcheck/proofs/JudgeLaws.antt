@@ -17,7 +17,7 @@ use Rattle.sp64.specs.Slenderness.{StrutRanges, slendernessHolds}
 use Rattle.sp64.specs.declared.strut.Strut.{Strut}
 use Rattle.sp64.specs.declared.tables.Stress.the-variants.{Compression as compressionStress, Tension as tensionStress}
 use Rattle.member.specs.Cells.{required}
-use Rattle.member.specs.Checks.{YesNo, Strength, yesNo, strength, number, yesNoOf, strengthOf, omitted, layout, slenderness, jointLength, bending, buckling, compressionBending, tensionBending}
+use Rattle.member.specs.Checks.{YesNoCheck, StrengthCheck, yesNo, strength, checkNumber, yesNoChecks, strengthChecks, omitted, layout, slenderness, jointLength, bending, buckling, compressionBending, tensionBending}
 use Rattle.member.specs.Member.{Across, acrossHeight, acrossWidth, strutOf, limitOf, countOf, NRof, MRof}
 use Rattle.member.specs.Verdict.{holds, utilisationOf, used, greaterOf, governedBy, hasStrength, governing, judgeBy, failedOn, byStrength, verdict}
 use Rattle.member.specs.declared.kind.Kind.{Kind}
@@ -29,7 +29,7 @@ use Rattle.rowcheck.specs.FirstFailed.{firstFailed, exactOf}
 
 -- Layout and slenderness, of which the code finds the first that fails.
 module _ (m : Member) where
-  abbrev struts : List YesNo
+  abbrev struts : List YesNoCheck
   struts = slenderness acrossHeight ∷ slenderness acrossWidth ∷ []
 
   -- the code's tests of check 1, and of checks 2 and 3 with the struts s and t
@@ -45,9 +45,9 @@ module _ (m : Member) where
   layout-first e fails = rw (e, fails) refl
 
   -- a kind without effective lengths has none of the three
-  pub none-first : required (m .kind) 11 ≡ false → 0 ≡ firstFailed m (exactOf (m .kind))
+  pub no-slenderness : required (m .kind) 11 ≡ false → 0 ≡ firstFailed m (exactOf (m .kind))
   unfolding firstFailed
-  none-first = by (m .kind)
+  no-slenderness = by (m .kind)
     where
       by : (kind : Kind) → required kind 11 ≡ false → 0 ≡ firstFailed m (exactOf kind)
       by Tension e = absurd (true≢false e)
@@ -69,10 +69,10 @@ module _ (m : Member) where
       by TensionBending e = refl
 
   -- the first that fails gives the verdict; where none does, the rest of the list gives it
-  abbrev ByFirst : List YesNo → List YesNo → Verdict → Type 0
+  abbrev ByFirst : List YesNoCheck → List YesNoCheck → Verdict → Type 0
   ByFirst checks rest v = judgeBy m (checks ++ rest) v ≡ cond (eqb (firstFailed m checks) 0) (judgeBy m rest v) (failedOn (firstFailed m checks) 0)
 
-  struts-decide : (rest : List YesNo) (v : Verdict) → ByFirst struts rest v
+  struts-decide : (rest : List YesNoCheck) (v : Verdict) → ByFirst struts rest v
   unfolding judgeBy firstFailed
   struts-decide rest v = by (holds m (slenderness acrossHeight)) (omitted m (yesNo (slenderness acrossWidth)) || holds m (slenderness acrossWidth))
     where
@@ -81,7 +81,7 @@ module _ (m : Member) where
       by true false = refl
       by false y = refl
 
-  layout-decides : (rest : List YesNo) (v : Verdict) → ByFirst (layout ∷ struts) rest v
+  layout-decides : (rest : List YesNoCheck) (v : Verdict) → ByFirst (layout ∷ struts) rest v
   unfolding judgeBy firstFailed
   layout-decides rest v = by laidOut refl
     where
@@ -90,14 +90,14 @@ module _ (m : Member) where
       by false e = rw e refl
 
   -- what is left of a kind's yes-or-no checks after the three
-  abbrev lengthOf : Kind → List YesNo
-  lengthOf Tension = jointLength ∷ []
-  lengthOf Bending = []
-  lengthOf Compression = []
-  lengthOf CompressionBending = []
-  lengthOf TensionBending = []
+  abbrev lengthChecks : Kind → List YesNoCheck
+  lengthChecks Tension = jointLength ∷ []
+  lengthChecks Bending = []
+  lengthChecks Compression = []
+  lengthChecks CompressionBending = []
+  lengthChecks TensionBending = []
 
-  first-decides : (kind : Kind) (v : Verdict) → judgeBy m (yesNoOf kind) v ≡ cond (eqb (firstFailed m (exactOf kind)) 0) (judgeBy m (lengthOf kind) v) (failedOn (firstFailed m (exactOf kind)) 0)
+  first-decides : (kind : Kind) (v : Verdict) → judgeBy m (yesNoChecks kind) v ≡ cond (eqb (firstFailed m (exactOf kind)) 0) (judgeBy m (lengthChecks kind) v) (failedOn (firstFailed m (exactOf kind)) 0)
   unfolding firstFailed
   first-decides Tension v = layout-decides (jointLength ∷ []) v
   first-decides Bending v = refl
@@ -106,7 +106,7 @@ module _ (m : Member) where
   first-decides TensionBending v = struts-decide [] v
 
   abbrev strengthVerdict : Kind → Verdict
-  strengthVerdict kind = byStrength (governing m (strengthOf kind)) (countOf m)
+  strengthVerdict kind = byStrength (governing m (strengthChecks kind)) (countOf m)
 
   -- the code finds n
   module _ {n : ℕ} (found : n ≡ firstFailed m (exactOf (m .kind))) where
@@ -115,12 +115,12 @@ module _ (m : Member) where
     first-gives fails = rw (first-decides (m .kind) (strengthVerdict (m .kind)), ← found, ne-eqb n 0 fails) refl
 
     module _ (zero : n ≡ 0) where
-      past-first : judgeBy m (lengthOf (m .kind)) (strengthVerdict (m .kind)) ≡ verdict m
+      past-first : judgeBy m (lengthChecks (m .kind)) (strengthVerdict (m .kind)) ≡ verdict m
       past-first = rw (first-decides (m .kind) (strengthVerdict (m .kind)), ← found, zero) refl
 
       -- none does, and the row has a joint: check 4 is left
       pub joint-left : m .kind ≡ Tension → judgeBy m (jointLength ∷ []) (strengthVerdict Tension) ≡ verdict m
-      joint-left e = ap (λ (kind : Kind). judgeBy m (lengthOf kind) (strengthVerdict kind)) (sym e) ∙ past-first
+      joint-left e = ap (λ (kind : Kind). judgeBy m (lengthChecks kind) (strengthVerdict kind)) (sym e) ∙ past-first
 
       -- the layout of that joint holds
       pub layout-held : m .kind ≡ Tension → m .jointed ≡ true → Layout (m .height) (m .joint)
@@ -131,11 +131,11 @@ module _ (m : Member) where
           by false h = let z : _≡_ {A = ℕ} 1 0 = layout-first e (rw (j, h) refl) ∙ sym found ∙ zero in absurd (omega arith)
 
       -- none does, and the row has no joint: strength is left
-      pub strength-left : m .jointed ≡ false → byStrength (governing m (strengthOf (m .kind))) 0 ≡ verdict m
+      pub strength-left : m .jointed ≡ false → byStrength (governing m (strengthChecks (m .kind))) 0 ≡ verdict m
       unfolding judgeBy
-      strength-left j = ap (byStrength (governing m (strengthOf (m .kind)))) (rw j refl) ∙ by (m .kind) (strengthVerdict (m .kind)) ∙ past-first
+      strength-left j = ap (byStrength (governing m (strengthChecks (m .kind)))) (rw j refl) ∙ by (m .kind) (strengthVerdict (m .kind)) ∙ past-first
         where
-          by : (kind : Kind) (v : Verdict) → v ≡ judgeBy m (lengthOf kind) v
+          by : (kind : Kind) (v : Verdict) → v ≡ judgeBy m (lengthChecks kind) v
           by Tension v = rw j refl
           by Bending v = refl
           by Compression v = refl
@@ -159,7 +159,7 @@ module _ (m : Member) (v : Verdict) {t : Bool} {r : Verdict} (found : t ≡ (omi
   length-holds left e = rw (← found, not-false t left) e
 
 -- the greater of c and what governs the rest, by what the code finds for them
-greater-of : (m : Member) (c : Strength) (rest : Option Strength) → greaterOf (used m c) (governedBy m rest) ≡ used m (orGreater (utilisationOf m) c rest)
+greater-of : (m : Member) (c : StrengthCheck) (rest : Option StrengthCheck) → greaterOf (used m c) (governedBy m rest) ≡ used m (orGreater (utilisationOf m) c rest)
 greater-of m c none = rw leb·zero refl
 greater-of m c (some d) = by (leb (utilisationOf m d) (utilisationOf m c))
   where
@@ -168,14 +168,14 @@ greater-of m c (some d) = by (leb (utilisationOf m d) (utilisationOf m c))
     by false = refl
 
 -- the next strength check is c, which the row has, and the code finds x for it
-module _ (m : Member) (c : Strength) {x : Governing} (kept : omitted m (strength c) ≡ false) (found : x ≡ used m c) where
+module _ (m : Member) (c : StrengthCheck) {x : Governing} (kept : omitted m (strength c) ≡ false) (found : x ≡ used m c) where
   -- it is the last
   pub only : x ≡ governing m (c ∷ [])
   unfolding greatest
   only = rw kept found
 
   -- the code compares it with y, which governs the rest
-  pub governs : (checks : List Strength) {y g : Governing} → y ≡ governing m checks → g ≡ greaterOf x y → g ≡ governing m (c ∷ checks)
+  pub governs : (checks : List StrengthCheck) {y g : Governing} → y ≡ governing m checks → g ≡ greaterOf x y → g ≡ governing m (c ∷ checks)
   unfolding greatest
   governs checks rest e = rw kept (e ∙ ap₂ greaterOf found rest ∙ greater-of m c (greatest (hasStrength m) (utilisationOf m) checks))
 
@@ -192,9 +192,9 @@ module _ (m : Member) where
   bending-found e found = found ∙ ap (λ (mr : ℕ). at 7 (utilisation (m .moment) mr)) e
 
   pub buckling-found : (across : Across) {nr : ℕ} {strut : Strut} {x : Governing} → nr ≡ NRof compressionStress m → strut ≡ strutOf m across
-      → x ≡ at (number (strength (buckling across))) (utilisation (m .force) (bucklingCapacity nr (bucklingPhi strut))) → x ≡ used m (buckling across)
+      → x ≡ at (checkNumber (strength (buckling across))) (utilisation (m .force) (bucklingCapacity nr (bucklingPhi strut))) → x ≡ used m (buckling across)
   buckling-found across e s found =
-      found ∙ ap₂ (λ (nr : ℕ) (strut : Strut). at (number (strength (buckling across))) (utilisation (m .force) (bucklingCapacity nr (bucklingPhi strut)))) e s
+      found ∙ ap₂ (λ (nr : ℕ) (strut : Strut). at (checkNumber (strength (buckling across))) (utilisation (m .force) (bucklingCapacity nr (bucklingPhi strut)))) e s
 
   pub compression-bending-found : {nr mr : ℕ} {strut : Strut} {x : Governing} → nr ≡ NRof compressionStress m → mr ≡ MRof m → strut ≡ strutOf m acrossHeight
       → x ≡ at 11 (axialWithMoment (m .force) (m .moment) nr (eulerCapacity nr strut) mr) → x ≡ used m compressionBending

@@ -3,7 +3,7 @@
 use Prim.Native.Nat.{ℕ}
 use mathlib.Core.Bool.{cond, _||_}
 use mathlib.Core.List.{List, [], _∷_}
-use Rattle.member.specs.Checks.{YesNo, yesNo, number, omitted, layout, slenderness}
+use Rattle.member.specs.Checks.{YesNoCheck, yesNo, checkNumber, omitted, layout, slenderness}
 use Rattle.member.specs.Member.{acrossHeight, acrossWidth}
 use Rattle.member.specs.Verdict.{holds}
 use Rattle.member.specs.declared.kind.Kind.{Kind}
@@ -11,12 +11,12 @@ use Rattle.member.specs.declared.kind.Kind.the-variants.{Tension, Bending, Comp
 use Rattle.member.specs.declared.member.Member.{Member}
 
 -- of these checks, the number of the first that the row has and that fails, 0 where none does
-unfoldable pub firstFailed : Member → List YesNo → ℕ
+unfoldable pub firstFailed : Member → List YesNoCheck → ℕ
 firstFailed m [] = 0
-firstFailed m (c ∷ checks) = cond (omitted m (yesNo c) || holds m c) (firstFailed m checks) (number (yesNo c))
+firstFailed m (c ∷ checks) = cond (omitted m (yesNo c) || holds m c) (firstFailed m checks) (checkNumber (yesNo c))
 
 -- the checks of layout and slenderness that a kind has
-abbrev pub exactOf : Kind → List YesNo
+abbrev pub exactOf : Kind → List YesNoCheck
 exactOf Tension = layout ∷ slenderness acrossHeight ∷ slenderness acrossWidth ∷ []
 exactOf Bending = []
 exactOf Compression = slenderness acrossHeight ∷ slenderness acrossWidth ∷ []

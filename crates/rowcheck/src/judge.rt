@@ -31,7 +31,7 @@ ghost use mathlib.Core.Bool.{true, false, not, _||_};
 ghost use mathlib.Core.List.{[], _∷_};
 ghost use Rattle.sp64.specs.Joint.{JointRanges, Layout, layoutHolds};
 ghost use Rattle.sp64.specs.Ranges.{InForce, InHeight};
-ghost use Rattle.member.specs.Checks.{jointLength, strengthOf};
+ghost use Rattle.member.specs.Checks.{jointLength, strengthChecks};
 ghost use Rattle.member.specs.Member.{countOf};
 ghost use Rattle.member.specs.Ranges.{Sized, RangesOf};
 ghost use Rattle.member.specs.Verdict.{byStrength, governing, judgeBy, verdict};
@@ -64,7 +64,7 @@ fn first_failed(m: Member) -> u32
 // The strength check that governs a member without a joint.
 fn governing_check(m: Member) -> Governing
     requires { ⌜ RangesOf (m .kind) m × (m .jointed ≡ false) ⌝ }
-    ensures { λ r. ⌜ r ≡ governing m (strengthOf (m .kind)) ⌝ }
+    ensures { λ r. ⌜ r ≡ governing m (strengthChecks (m .kind)) ⌝ }
 {
     let kind = m.kind;
     match kind {
@@ -125,7 +125,7 @@ fn governing_check(m: Member) -> Governing
 // The verdict on a member with a joint whose layout holds: checks 4 to 6.
 fn judge_joint(m: Member) -> Verdict
     requires { ⌜ Sized m × InForce (m .force) × JointRanges (m .joint) × Layout (m .height) (m .joint) × (m .jointed ≡ true) ⌝ }
-    ensures { λ r. ⌜ r ≡ judgeBy m (jointLength ∷ []) (byStrength (governing m (strengthOf Tension)) (countOf m)) ⌝ }
+    ensures { λ r. ⌜ r ≡ judgeBy m (jointLength ∷ []) (byStrength (governing m (strengthChecks Tension)) (countOf m)) ⌝ }
 {
     let count = joint_count(m.force, m.width, m.joint, m.material);
     if !joint_length_holds(m.joint, count) {

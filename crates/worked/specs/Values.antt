@@ -8,7 +8,7 @@ use Rattle.sp64.specs.Joint.{leastTerm, dowelCapacity, columns, exactTerm}
 use Rattle.sp64.specs.Strength.{designStrength, exactStrength}
 use Rattle.sp64.specs.declared.tables.Stress.{Stress}
 use Rattle.sp64.specs.declared.tables.Stress.the-variants.{Compression, Tension}
-use Rattle.member.specs.Checks.{Strength}
+use Rattle.member.specs.Checks.{StrengthCheck}
 use Rattle.member.specs.Member.{Across, acrossWidth, strutOf, countOf, exactNRof, exactMRof}
 use Rattle.member.specs.Unrounded.{forcesOf}
 use Rattle.member.specs.Verdict.{utilisationOf}
@@ -47,7 +47,7 @@ abbrev pub columnsOf : Member → ℕ
 columnsOf m = columns (countOf m) (m .joint .across)
 
 -- the utilisation of a strength check, also of one that does not govern
-abbrev pub utilisationIn : Strength → Member → ℕ
+abbrev pub utilisationIn : StrengthCheck → Member → ℕ
 utilisationIn check m = utilisationOf m check
 
 -- check 7, unrounded: the moment to its capacity

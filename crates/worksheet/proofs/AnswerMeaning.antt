@@ -15,7 +15,7 @@ use Rattle.cells.proofs.FloatLaws.{whole-exact}
 use Rattle.member.specs.declared.verdict.Verdict.{Verdict}
 use Rattle.member.proofs.VerdictRange.{VerdictRange}
 use Rattle.worksheet.specs.Entries.{verdictBytes}
-use Rattle.worksheet.specs.HostAnswer.{floatsBytes, floatsResult, hostAnswer, answerBytes, answerResult}
+use Rattle.worksheet.specs.HostAnswer.{floatsBytes, floatsResult, hostAnswer, answerBytes, answerRoomResult}
 use Rattle.worksheet.specs.declared.answer.HostAnswer.{HostAnswer}
 
 -- three numbers of 64 bits, one after the other, from their bytes
@@ -64,5 +64,5 @@ answer-is-floats answer =
     ap (λ (bytes : List ℕ). floatBytes (answer .utilisation) ++ (floatBytes (answer .count) ++ bytes)) (append-nil (floatBytes (answer .check)))
     ∙ sym (append-assoc (floatBytes (answer .utilisation)) (floatBytes (answer .count)) (floatBytes (answer .check)))
 
-pub answer-has-three : (room : ℕ) → floatsResult 3 room ≡ answerResult room
+pub answer-has-three : (room : ℕ) → floatsResult 3 room ≡ answerRoomResult room
 answer-has-three room = refl

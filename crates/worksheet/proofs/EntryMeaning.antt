@@ -19,7 +19,7 @@ use Rattle.cells.specs.declared.row.Cell.{Cell}
 use Rattle.worksheet.proofs.AnswerMeaning.{HoldsVerdict, verdict-held}
 use Rattle.worksheet.proofs.ReadRows.{row-as-read}
 use Rattle.member.specs.Acceptance.{accept}
-use Rattle.member.specs.Checks.{Check, Has, number}
+use Rattle.member.specs.Checks.{Check, Has, checkNumber}
 use Rattle.member.specs.Demand3.{demandFactor}
 use Rattle.member.specs.Unrounded.{forcesOf, Holds}
 use Rattle.member.specs.Verdict.{verdict, judged, checkRow}
@@ -134,7 +134,7 @@ zero-means row answer z =
 
 -- 1 returned: the check whose number the host reads at byte 16 is the row's and fails unrounded, with N, M and Q each times its factor unless it is of layout or slenderness
 pub one-means : (row answer : List ℕ) → checkReturns row (length answer) ≡ 1
-    → (j : WasJudged row answer) × (c : Check) × Has (j .member) c × HasValue (floatAt (checkLeaves row answer) 16) false (number c) 1
+    → (j : WasJudged row answer) × (c : Check) × Has (j .member) c × HasValue (floatAt (checkLeaves row answer) 16) false (checkNumber c) 1
     × (Holds (j .member) (failForces demandFactor (forcesOf (j .member)) c) c → ⊥)
 one-means row answer z =
     let j = was-judged row answer (omega (arith, z)) in

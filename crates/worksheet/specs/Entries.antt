@@ -5,7 +5,7 @@ use mathlib.Core.Bool.{cond}
 use mathlib.Core.List.{List}
 use mathlib.Core.Path.{_≡_}
 use lib.ListN.{length}
-use Rattle.worksheet.specs.HostAnswer.{hostAnswer, answerBytes, answerResult}
+use Rattle.worksheet.specs.HostAnswer.{hostAnswer, answerBytes, answerRoomResult}
 use Rattle.worksheet.specs.HostRow.{readHostRow}
 use Rattle.cells.specs.Refusal.{Result, gives, andThen, leaves, told}
 use Rattle.cells.specs.declared.row.Cell.{Cell}
@@ -19,7 +19,7 @@ use Rattle.packed.specs.Packing.{packResult, packBuffer}
 
 -- a verdict in an answer of `room` bytes: refused for another length than 24
 abbrev pub answered : ℕ → Verdict → Result Verdict
-answered room verdict = andThen (answerResult room) (λ (given : Unit {0}). gives verdict)
+answered room verdict = andThen (answerRoomResult room) (λ (given : Unit {0}). gives verdict)
 
 -- checking for the host: the row read, then checked, the answer's length tested last
 abbrev pub hostCheck : List ℕ → ℕ → Result Verdict

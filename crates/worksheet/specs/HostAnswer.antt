@@ -36,9 +36,9 @@ abbrev pub answerBytes : HostAnswer → List ℕ
 answerBytes answer = floatBytes (answer .utilisation) ++ floatBytes (answer .count) ++ floatBytes (answer .check)
 
 -- an answer has 24 bytes: another length is refused, 5, cell 0
-abbrev pub answerResult : ℕ → Result (Unit {0})
-answerResult room = cond (eqb room 24) (gives tt) (refuses 5 0)
+abbrev pub answerRoomResult : ℕ → Result (Unit {0})
+answerRoomResult room = cond (eqb room 24) (gives tt) (refuses 5 0)
 
 -- the lent bytes after an answer; untouched by a refusal
 abbrev pub answerBuffer : ℕ → ℕ → ℕ → List ℕ → List ℕ
-answerBuffer utilisation count check buffer = whereGiven (answerResult (length buffer)) (answerBytes (hostAnswer utilisation count check)) buffer
+answerBuffer utilisation count check buffer = whereGiven (answerRoomResult (length buffer)) (answerBytes (hostAnswer utilisation count check)) buffer

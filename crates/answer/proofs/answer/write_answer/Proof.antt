@@ -6,7 +6,7 @@ use mathlib.Core.List.{List, [], _∷_}
 use Prim.Native.Nat.{ℕ}
 use lib.ListN.{length}
 use Rattle.cells.specs.Refusal.{whereGiven}
-use Rattle.worksheet.specs.HostAnswer.{NoNans, answerResult, answerBytes}
+use Rattle.worksheet.specs.HostAnswer.{NoNans, answerRoomResult, answerBytes}
 use Rattle.worksheet.specs.declared.answer.HostAnswer.{HostAnswer}
 use Rattle.worksheet.proofs.AnswerMeaning.{answer-is-floats}
 use Rattle.answer.proofs.AnswerLaws.{answer-numbers}
@@ -37,7 +37,7 @@ returns c =
     let made = w .before .before .before in
     let out = made .before .before .args .out .now in
     let bytes = answer-is-floats (made .host-answer .result) ∙ ap answerBytes (made .host-answer .ensures) in
-    (w .write-floats .ensures .0, w .write-floats .ensures .1 ∙ ap (λ (bytes : List ℕ). whereGiven (answerResult (length out)) bytes out) bytes)
+    (w .write-floats .ensures .0, w .write-floats .ensures .1 ∙ ap (λ (bytes : List ℕ). whereGiven (answerRoomResult (length out)) bytes out) bytes)
 
 pub write-answer-spec : {M : Type 1} → statement M
 write-answer-spec =

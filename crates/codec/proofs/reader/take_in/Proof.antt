@@ -25,14 +25,14 @@ loop-holds c = (refl, c .before .pre)
 mul-waiting : tie.Need-mul-waiting Inv-loop μ-loop
 mul-waiting c = omega (arith, pow-mono {i = c .before .before .loop .count} {j = 34} (omega arith))
 
-shared-slice-read-wide : tie.Need-shared-slice-read-wide Inv-loop μ-loop
-shared-slice-read-wide c = search needs
+shared-slice-read-byte-value : tie.Need-shared-slice-read-byte-value Inv-loop μ-loop
+shared-slice-read-byte-value c = search needs
 
-wide-requires : tie.Need-wide-requires Inv-loop μ-loop
-wide-requires c κs = search needs
+byte-value-requires : tie.Need-byte-value-requires Inv-loop μ-loop
+byte-value-requires c κs = search needs
 
 add-waiting : tie.Need-add-waiting Inv-loop μ-loop
-add-waiting c = omega (arith, pow-mono {i = c .before .before .before .before .loop .count} {j = 34} (omega arith), c .wide .ensures .1)
+add-waiting c = omega (arith, pow-mono {i = c .before .before .before .before .loop .count} {j = 34} (omega arith), c .byte-value .ensures .1)
 
 add-count : tie.Need-add-count Inv-loop μ-loop
 add-count c = search needs
@@ -47,10 +47,10 @@ loop-again : tie.Need-loop-again Inv-loop μ-loop
 loop-again c =
     let l = c .before .before .before .before .loop in
     let bytes = c .before .before .before .before .before .before .args .bytes .now in
-    let w = c .wide .ensures in (
+    let w = c .byte-value .ensures in (
       rw (w .0) (byte-in bytes (l .at) (l .count) (l .waiting) (omega arith) (rw (w .0) at (w .1)) ∙ l .inv .0),
       record {
-        low = append-lt (l .count) 8 (l .waiting) (c .wide .result) (l .inv .1 .low) (w .1);
+        low = append-lt (l .count) 8 (l .waiting) (c .byte-value .result) (l .inv .1 .low) (w .1);
         most = omega arith;
         inside = omega arith;
         read = omega arith;
@@ -72,8 +72,8 @@ take-in-spec =
     μ-loop
     loop-holds
     mul-waiting
-    shared-slice-read-wide
-    wide-requires
+    shared-slice-read-byte-value
+    byte-value-requires
     add-waiting
     add-count
     add-at

@@ -23,14 +23,14 @@ add-word-at c = search needs
 word-at-requires : tie.Need-word-at-requires
 word-at-requires c κs = search needs
 
-float-of-requires : tie.Need-float-of-requires
-float-of-requires c κs = search needs
+float-with-bits-requires : tie.Need-float-with-bits-requires
+float-with-bits-requires c κs = search needs
 
 returns-2 : tie.Need-returns-2
 unfolding hostCellAt
 returns-2 c =
     rw (ne-eqb _ _ (c .before .before .before .if1 .left), eq-eqb _ _ (c .before .before .if2 .taken))
-    (ap Number (c .float-of .ensures ∙ ap (ofBits binary64) (c .before .word-at .ensures)))
+    (ap Number (c .float-with-bits .ensures ∙ ap (ofBits binary64) (c .before .word-at .ensures)))
 
 returns-3 : tie.Need-returns-3
 unfolding hostCellAt
@@ -44,6 +44,6 @@ host-cell-at-spec =
     returns
     add-word-at
     word-at-requires
-    float-of-requires
+    float-with-bits-requires
     returns-2
     returns-3)

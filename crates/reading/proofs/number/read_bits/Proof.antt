@@ -9,11 +9,11 @@ use Rattle.worksheet.proofs.NumberLaws.{zero-bits, negative-bits, small-bits, l
 use Rattle.reading.proofs.number.read_bits.Statement.{statement}
 use Rattle.reading.proofs.number.read_bits.Tie as tie
 
-whole-requires : tie.Need-whole-requires
-whole-requires c κs = search needs
+read-whole-requires : tie.Need-read-whole-requires
+read-whole-requires c κs = search needs
 
 returns : tie.Need-returns
-returns c = c .whole .ensures ∙ sym (zero-bits (c .before .before .args .bits) (c .before .if1 .taken))
+returns c = c .read-whole .ensures ∙ sym (zero-bits (c .before .before .args .bits) (c .before .if1 .taken))
 
 returns-2 : tie.Need-returns-2
 returns-2 c = sym (negative-bits (c .before .before .args .bits) (c .before .before .fits .bits .fits) (c .before .if1 .left) (omega (arith, c .if2 .taken)))
@@ -44,8 +44,8 @@ returns-5 c =
     sym (middle-bits b (c .before .before .before .if2 .left) (c .before .before .if3 .left) (c .before .if4 .left)
     ∙ not-whole false d (2 ^ k) (back-part d k (omega arith) (c .if5 .taken)))
 
-whole-requires-2 : tie.Need-whole-requires-2
-whole-requires-2 c κs = search needs
+read-whole-requires-2 : tie.Need-read-whole-requires-2
+read-whole-requires-2 c κs = search needs
 
 returns-6 : tie.Need-returns-6
 returns-6 c =
@@ -54,7 +54,7 @@ returns-6 c =
     let d = 2 ^ 52 + b % 2 ^ 52 in
     let k = 1075 - b / 2 ^ 52 in
     let low : 19 ≤ k = omega arith in
-    c .whole2 .ensures
+    c .read-whole2 .ensures
     ∙ sym (middle-bits b (e .before .before .before .if2 .left) (e .before .before .if3 .left) (e .before .if4 .left)
     ∙ is-whole d (2 ^ k) (back-whole d k (omega arith) (e .if5 .left)) (quotient-lt d k (omega arith) low))
 
@@ -62,7 +62,7 @@ pub read-bits-spec : {M : Type 1} → statement M
 read-bits-spec =
     tie.close
     (tie.spec
-    whole-requires
+    read-whole-requires
     returns
     returns-2
     returns-3
@@ -72,5 +72,5 @@ read-bits-spec =
     shr-number
     shl-if5
     returns-5
-    whole-requires-2
+    read-whole-requires-2
     returns-6)

@@ -9,7 +9,7 @@ use lib.Dec.{lit≤}
 use Rattle.cells.specs.Refusal.{refuses}
 use Rattle.lines.specs.Line.{rowLine}
 use Rattle.lines.specs.Text.{decimal, refusedWord, field, newline, lineOf}
-use Rattle.report.proofs.LineLaws.{Holds, room-left, holds-more, holds-none, number-short, field-short, refused-row}
+use Rattle.report.proofs.LineLaws.{HoldsText, room-left, holds-more, holds-none, number-short, field-short, refused-row}
 use Rattle.report.proofs.line.refused_line.Statement.{statement}
 use Rattle.report.proofs.line.refused_line.Tie as tie
 
@@ -20,7 +20,7 @@ with-number-requires : tie.Need-with-number-requires
 with-number-requires c κs = room-left _ (holds-none (c .empty .ensures)) (omega (arith, number-short (c .before .args .number)))
 
 -- after the number
-numbered : (c : tie.After-with-number) → Holds 20 (decimal (c .before .before .args .number)) (c .with-number .result)
+numbered : (c : tie.After-with-number) → HoldsText 20 (decimal (c .before .before .args .number)) (c .with-number .result)
 numbered c =
     let n = c .before .before .args .number in
     holds-more (decimal n) 20 (number-short n) (holds-none (c .before .empty .ensures)) (c .with-number .ensures)
@@ -32,7 +32,7 @@ with-word-field-requires : tie.Need-with-word-field-requires
 with-word-field-requires c κs = room-left 8 (numbered (c .before)) (lit≤ tt)
 
 -- after the word
-worded : (c : tie.After-with-word-field) → Holds 28 (decimal (c .before .before .before .before .args .number) ++ field refusedWord) (c .with-word-field .result)
+worded : (c : tie.After-with-word-field) → HoldsText 28 (decimal (c .before .before .before .before .args .number) ++ field refusedWord) (c .with-word-field .result)
 worded c = holds-more (field refusedWord) 8 (lit≤ tt) (numbered (c .before .before)) (c .with-word-field .ensures)
 
 refusal-number-requires : tie.Need-refusal-number-requires
@@ -43,7 +43,7 @@ with-number-field-requires c κs = room-left _ (worded (c .before)) (omega (arit
 
 -- after the reason
 reasoned : (c : tie.After-with-number-field)
-    → Holds 39 ((decimal (c .before .before .before .before .before .before .args .number) ++ field refusedWord) ++ field (decimal (c .before .refusal-number .result)))
+    → HoldsText 39 ((decimal (c .before .before .before .before .before .before .args .number) ++ field refusedWord) ++ field (decimal (c .before .refusal-number .result)))
     (c .with-number-field .result)
 reasoned c =
     let reason = c .before .refusal-number .result in
@@ -57,7 +57,7 @@ with-number-field-requires-2 c κs = room-left _ (reasoned (c .before)) (omega (
 
 -- after the cell
 placed : (c : tie.After-with-number-field2)
-    → Holds 50
+    → HoldsText 50
     (((decimal (c .before .before .before .before .before .before .before .before .args .number) ++ field refusedWord)
     ++ field (decimal (c .before .before .before .refusal-number .result)))
     ++ field (decimal (c .before .refusal-cell .result)))

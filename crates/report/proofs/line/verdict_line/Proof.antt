@@ -8,7 +8,7 @@ use native.Mathlib.Omega.{arith}
 use borrow.Author.Needs.{needs}
 use lib.Dec.{lit≤}
 use Rattle.lines.specs.Text.{decimal, passWord, failWord, field, newline, lineOf}
-use Rattle.report.proofs.LineLaws.{Holds, room-left, holds-more, holds-none, number-short, word-short, field-short, judged-row}
+use Rattle.report.proofs.LineLaws.{HoldsText, room-left, holds-more, holds-none, number-short, word-short, field-short, judged-row}
 use Rattle.report.proofs.line.verdict_line.Statement.{statement}
 use Rattle.report.proofs.line.verdict_line.Tie as tie
 
@@ -19,7 +19,7 @@ with-number-requires : tie.Need-with-number-requires
 with-number-requires c κs = room-left _ (holds-none (c .empty .ensures)) (omega (arith, number-short (c .before .args .number)))
 
 -- after the number
-numbered : (c : tie.After-with-number) → Holds 20 (decimal (c .before .before .args .number)) (c .with-number .result)
+numbered : (c : tie.After-with-number) → HoldsText 20 (decimal (c .before .before .args .number)) (c .with-number .result)
 numbered c =
     let n = c .before .before .args .number in
     holds-more (decimal n) 20 (number-short n) (holds-none (c .before .empty .ensures)) (c .with-number .ensures)
@@ -29,7 +29,7 @@ pass-or-fail-requires c κs = room-left 5 (numbered c) (lit≤ tt)
 
 -- after the word
 worded : (c : tie.After-pass-or-fail) → let a = c .before .before .before .args in
-    Holds 25 (decimal (a .number) ++ field (cond (a .verdict .passes) passWord failWord)) (c .pass-or-fail .result)
+    HoldsText 25 (decimal (a .number) ++ field (cond (a .verdict .passes) passWord failWord)) (c .pass-or-fail .result)
 worded c =
     let v = c .before .before .before .args .verdict in
     holds-more (field (cond (v .passes) passWord failWord)) 5 (word-short (v .passes)) (numbered (c .before)) (c .pass-or-fail .ensures)
@@ -39,7 +39,7 @@ with-number-field-requires c κs = room-left _ (worded c) (omega (arith, field-s
 
 -- after the check
 checked : (c : tie.After-with-number-field) → let a = c .before .before .before .before .args in
-    Holds 36 ((decimal (a .number) ++ field (cond (a .verdict .passes) passWord failWord)) ++ field (decimal (a .verdict .check))) (c .with-number-field .result)
+    HoldsText 36 ((decimal (a .number) ++ field (cond (a .verdict .passes) passWord failWord)) ++ field (decimal (a .verdict .check))) (c .with-number-field .result)
 checked c =
     let check = c .before .before .before .before .args .verdict .check in
     holds-more (field (decimal check)) 11 (field-short check (search needs)) (worded (c .before)) (c .with-number-field .ensures)
@@ -50,7 +50,7 @@ with-number-field-requires-2 c κs =
 
 -- after the utilisation
 used : (c : tie.After-with-number-field2) → let a = c .before .before .before .before .before .args in
-    Holds 47
+    HoldsText 47
     (((decimal (a .number) ++ field (cond (a .verdict .passes) passWord failWord)) ++ field (decimal (a .verdict .check))) ++ field (decimal (a .verdict .utilisation)))
     (c .with-number-field2 .result)
 used c =
@@ -63,7 +63,7 @@ with-number-field-requires-3 c κs =
 
 -- after the count
 counted : (c : tie.After-with-number-field3) → let a = c .before .before .before .before .before .before .args in
-    Holds 58
+    HoldsText 58
     ((((decimal (a .number) ++ field (cond (a .verdict .passes) passWord failWord)) ++ field (decimal (a .verdict .check))) ++ field (decimal (a .verdict .utilisation)))
     ++ field (decimal (a .verdict .count)))
     (c .with-number-field3 .result)

@@ -5,7 +5,7 @@ use mathlib.Core.Bool.{Bool, true, false, not, _||_}
 use borrow.Author.Tests.{not-true, not-false}
 use Rattle.member.specs.Member.{acrossHeight, acrossWidth}
 use Rattle.member.proofs.Reliance.{struts-in}
-use Rattle.rowcheck.proofs.JudgeLaws.{layout-first, none-first, slender-first, strut-in}
+use Rattle.rowcheck.proofs.JudgeLaws.{layout-first, no-slenderness, slender-first, strut-in}
 use borrow.Author.Needs.{needs}
 use Rattle.rowcheck.proofs.judge.first_failed.Statement.{statement}
 use Rattle.rowcheck.proofs.judge.first_failed.Tie as tie
@@ -27,7 +27,7 @@ is-required-requires : tie.Need-is-required-requires
 is-required-requires c κs = search needs
 
 returns-2 : tie.Need-returns-2
-returns-2 c = none-first _ (sym (c .before .is-required .ensures) ∙ not-true _ (c .if2 .taken))
+returns-2 c = no-slenderness _ (sym (c .before .is-required .ensures) ∙ not-true _ (c .if2 .taken))
 
 strut-requires : tie.Need-strut-requires
 strut-requires c κs = search needs

@@ -2,7 +2,7 @@
 -- Assumes nothing.
 use mathlib.Core.Path.{_≡_, refl, sym, ap, subst, _∙_}
 use Rattle.cells.specs.Greatest.{greatest}
-use Rattle.member.specs.Checks.{strengthOf}
+use Rattle.member.specs.Checks.{strengthChecks}
 use Rattle.member.specs.Member.{acrossHeight, acrossWidth}
 use Rattle.member.specs.Ranges.{RangesOf}
 use Rattle.member.specs.Verdict.{governing}
@@ -19,8 +19,8 @@ module _ (m : Member) {kind : Kind} (is : m .kind ≡ kind) where
   ranges : RangesOf (m .kind) m → RangesOf kind m
   ranges = subst (λ (k : Kind). RangesOf k m) is
 
-  agrees : governing m (strengthOf kind) ≡ governing m (strengthOf (m .kind))
-  agrees = ap (λ (k : Kind). governing m (strengthOf k)) (sym is)
+  agrees : governing m (strengthChecks kind) ≡ governing m (strengthChecks (m .kind))
+  agrees = ap (λ (k : Kind). governing m (strengthChecks k)) (sym is)
 
 enum-told : tie.Need-enum-told
 enum-told c = search needs

@@ -1,9 +1,9 @@
--- `float_of` meets its contract.
+-- `whole_float` meets its contract.
 -- Assumes nothing.
 use mathlib.Core.Path.{refl}
 use Rattle.cells.proofs.FloatLaws.{whole-in, whole-not-nan}
-use Rattle.answer.proofs.floats.float_of.Statement.{statement}
-use Rattle.answer.proofs.floats.float_of.Tie as tie
+use Rattle.answer.proofs.floats.whole_float.Statement.{statement}
+use Rattle.answer.proofs.floats.whole_float.Tie as tie
 
 int-to-float-result : tie.Need-int-to-float-result
 int-to-float-result c = whole-in (c .before .args .n) (c .before .pre)
@@ -11,5 +11,5 @@ int-to-float-result c = whole-in (c .before .args .n) (c .before .pre)
 returns : tie.Need-returns
 returns c = (refl, whole-not-nan (c .before .args .n) (c .before .pre))
 
-pub float-of-spec : {M : Type 1} → statement M
-float-of-spec = tie.close (tie.spec int-to-float-result returns)
+pub whole-float-spec : {M : Type 1} → statement M
+whole-float-spec = tie.close (tie.spec int-to-float-result returns)

@@ -1,4 +1,4 @@
--- `float_of` meets its contract.
+-- `float_with_bits` meets its contract.
 -- Assumes nothing.
 use borrow.Author.Needs.{needs}
 use mathlib.Core.Path.{sym, _∙_, subst}
@@ -8,8 +8,8 @@ use lib.Ieee.{binary64}
 use lib.Ieee.Bits.{nanBits-above}
 use borrow.Author.Tests.{le-ltb}
 use Rattle.worksheet.proofs.HostRowLaws.{zero-by-zero, nan-pattern}
-use Rattle.reading.proofs.host_row.float_of.Statement.{statement}
-use Rattle.reading.proofs.host_row.float_of.Tie as tie
+use Rattle.reading.proofs.host_row.float_with_bits.Statement.{statement}
+use Rattle.reading.proofs.host_row.float_with_bits.Tie as tie
 
 returns : tie.Need-returns
 returns c = zero-by-zero ∙ sym (nan-pattern (c .before .args .bits) (c .if1 .taken))
@@ -20,5 +20,5 @@ float-from-bits-result c = subst (λ (p : Bool). T (not p)) (sym (nanBits-above 
 returns-2 : tie.Need-returns-2
 returns-2 c = search needs
 
-pub float-of-spec : {M : Type 1} → statement M
-float-of-spec = tie.close (tie.spec returns float-from-bits-result returns-2)
+pub float-with-bits-spec : {M : Type 1} → statement M
+float-with-bits-spec = tie.close (tie.spec returns float-from-bits-result returns-2)
