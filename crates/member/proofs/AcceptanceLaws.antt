@@ -83,40 +83,6 @@ module _ (kind : Kind) (begun : Bool) (cells : List Cell) (whole : length cells 
   pub code-known : (k : ℕ) → k < cellCount → wanted kind begun (1 + k) ≡ true → knownCode kind (1 + k) (getD (valuesOf cells) k 0) ≡ true
   code-known k h w = rw (value-at k) (passes-test _ _ (filled-at k h w) (unbroken (unknownCode kind) (ok .code) k h))
 
--- the member of a row in which no cell breaks a rule
-module _ (kind : Kind) (begun : Bool) (cells : List Cell) (whole : length cells ≡ cellCount) (ok : Unbroken kind begun cells) where
-  abbrev here : Member
-  here = memberOf kind begun (valuesOf cells)
-
-  -- a cell that the kind always fills is wanted
-  always : (n : ℕ) → required kind n ≡ true → wanted kind begun n ≡ true
-  always n e = rw e refl
-
-  row-known : required kind 13 ≡ true → (leb 1 (slendernessLimit (here .table16)) ≡ true) × (Bool·beq (leb (here .table16) 3) (compressed kind) ≡ true)
-  row-known e = both-true _ _ (code-known kind begun cells whole ok 12 (lit< tt) (always 13 e))
-
-  -- rows 1 to 3 of Table 16 for kinds 3 and 4
-  row-low : required kind 13 ≡ true → compressed kind ≡ true → here .table16 ≤ 3
-  row-low r e =
-      let same = ap (λ (t : Bool). Bool·beq (leb (here .table16) 3) t) (sym e) ∙ row-known r .1 in
-      leb-true _ _ (same-as-true _ same)
-
--- the joint of a row that has begun one
-joint-in : (kind : Kind) (cells : List Cell) → length cells ≡ cellCount → kind ≡ Tension → Unbroken kind true cells → JointRanges (jointOf (valuesOf cells))
-joint-in kind cells whole e ok =
-    let at = cell-in Tension true cells whole (rw e at ok) in
-    record {
-      side = at 13 (lit< tt) refl;
-      diameter = at 14 (lit< tt) refl;
-      across = at 15 (lit< tt) refl;
-      available = at 16 (lit< tt) refl;
-      kc = at 17 (lit< tt) refl;
-      ka = at 18 (lit< tt) refl;
-      kb = at 19 (lit< tt) refl;
-      ke = at 20 (lit< tt) refl;
-      km = at 21 (lit< tt) refl;
-    }
-
 -- a kind without optional cells begins none
 none-begun : (kind : Kind) (cells : List Cell) → ((n : ℕ) → optional kind n ≡ false) → isBegun kind cells ≡ true → ⊥
 none-begun kind cells none e =
@@ -147,36 +113,69 @@ braced-cells Compression e = (refl, refl)
 braced-cells CompressionBending e = (refl, refl)
 braced-cells TensionBending e = (refl, refl)
 
--- the ranges that the member of an accepted row keeps
-pub accepted-ranges : (kind : Kind) (cells : List Cell) {begun : Bool} → length cells ≡ cellCount → begun ≡ isBegun kind cells → Unbroken kind begun cells → RangesOf kind (memberOf kind begun (valuesOf cells))
-accepted-ranges kind cells {begun} whole is ok =
-    let has : (n : ℕ) → required kind n ≡ true → wanted kind begun n ≡ true = always kind begun cells whole ok in
-    let first : (n : ℕ) → 1 ≤ n → n ≤ 7 → wanted kind begun n ≡ true = λ n low high. has n (first-cells kind n low high) in
-    let at = cell-in kind begun cells whole ok in
-    let code = code-known kind begun cells whole ok in
+-- the joint of a row that has begun one
+joint-in : (kind : Kind) (cells : List Cell) → length cells ≡ cellCount → kind ≡ Tension → Unbroken kind true cells → JointRanges (jointOf (valuesOf cells))
+joint-in kind cells whole e ok =
+    let at = cell-in Tension true cells whole (rw e at ok) in
     record {
-      sized =
-          record {
-            material =
-                material-known (getD (valuesOf cells) 1 0) (getD (valuesOf cells) 2 0) (getD (valuesOf cells) 3 0)
-                (leb-true _ _ (code 1 (lit< tt) (first 2 (lit≤ tt) (lit≤ tt))))
-                (leb-true _ _ (code 2 (lit< tt) (first 3 (lit≤ tt) (lit≤ tt))))
-                (at 4 (lit< tt) (first 5 (lit≤ tt) (lit≤ tt)));
-            section = record { width = at 5 (lit< tt) (first 6 (lit≤ tt) (lit≤ tt)); height = at 6 (lit< tt) (first 7 (lit≤ tt) (lit≤ tt)) };
-          };
-      force = λ e. at 7 (lit< tt) (has 8 e);
-      moment = λ e. at 8 (lit< tt) (has 9 e);
-      braced = λ e.
-          let row = braced-cells kind e .1 in
-          record {
-            lh = at 10 (lit< tt) (has 11 e);
-            lb = at 11 (lit< tt) (has 12 (braced-cells kind e .0));
-            limit = limit-in (here kind begun cells whole ok .table16) (leb-true _ _ (row-known kind begun cells whole ok row .0));
-          };
-      table16 = row-low kind begun cells whole ok;
-      tension = λ e. begun-tension kind cells (sym is ∙ e);
-      joint = λ e. joint-in kind cells whole (begun-tension kind cells (sym is ∙ e)) (rw e at ok);
+      side = at 13 (lit< tt) refl;
+      diameter = at 14 (lit< tt) refl;
+      across = at 15 (lit< tt) refl;
+      available = at 16 (lit< tt) refl;
+      kc = at 17 (lit< tt) refl;
+      ka = at 18 (lit< tt) refl;
+      kb = at 19 (lit< tt) refl;
+      ke = at 20 (lit< tt) refl;
+      km = at 21 (lit< tt) refl;
     }
+
+-- the member of a row in which no cell breaks a rule
+module _ (kind : Kind) {begun : Bool} (cells : List Cell) (whole : length cells ≡ cellCount) (is : begun ≡ isBegun kind cells) (ok : Unbroken kind begun cells) where
+  abbrev here : Member
+  here = memberOf kind begun (valuesOf cells)
+
+  -- a cell that the kind always fills is wanted
+  always : (n : ℕ) → required kind n ≡ true → wanted kind begun n ≡ true
+  always n e = rw e refl
+
+  first : (n : ℕ) → 1 ≤ n → n ≤ 7 → wanted kind begun n ≡ true
+  first n low high = always n (first-cells kind n low high)
+
+  row-known : required kind 13 ≡ true → (leb 1 (slendernessLimit (here .table16)) ≡ true) × (Bool·beq (leb (here .table16) 3) (compressed kind) ≡ true)
+  row-known e = both-true _ _ (code-known kind begun cells whole ok 12 (lit< tt) (always 13 e))
+
+  row-low : required kind 13 ≡ true → compressed kind ≡ true → here .table16 ≤ 3
+  row-low has e =
+      let same = ap (λ (t : Bool). Bool·beq (leb (here .table16) 3) t) (sym e) ∙ row-known has .1 in
+      leb-true _ _ (same-as-true _ same)
+
+  -- it keeps the ranges of its kind
+  pub accepted-ranges : RangesOf kind here
+  accepted-ranges =
+      let at = cell-in kind begun cells whole ok in
+      let code = code-known kind begun cells whole ok in
+      record {
+        sized =
+            record {
+              material =
+                  material-known (getD (valuesOf cells) 1 0) (getD (valuesOf cells) 2 0) (getD (valuesOf cells) 3 0)
+                  (leb-true _ _ (code 1 (lit< tt) (first 2 (lit≤ tt) (lit≤ tt))))
+                  (leb-true _ _ (code 2 (lit< tt) (first 3 (lit≤ tt) (lit≤ tt))))
+                  (at 4 (lit< tt) (first 5 (lit≤ tt) (lit≤ tt)));
+              section = record { width = at 5 (lit< tt) (first 6 (lit≤ tt) (lit≤ tt)); height = at 6 (lit< tt) (first 7 (lit≤ tt) (lit≤ tt)) };
+            };
+        force = λ e. at 7 (lit< tt) (always 8 e);
+        moment = λ e. at 8 (lit< tt) (always 9 e);
+        braced = λ e.
+            record {
+              lh = at 10 (lit< tt) (always 11 e);
+              lb = at 11 (lit< tt) (always 12 (braced-cells kind e .0));
+              limit = limit-in (here .table16) (leb-true _ _ (row-known (braced-cells kind e .1) .0));
+            };
+        table16 = row-low;
+        tension = λ e. begun-tension kind cells (sym is ∙ e);
+        joint = λ e. joint-in kind cells whole (begun-tension kind cells (sym is ∙ e)) (rw e at ok);
+      }
 
 -- what acceptance comes to, by the first rule that a cell breaks
 module _ (kind : Kind) (cells : List Cell) {begun : Bool} (is : begun ≡ isBegun kind cells) where
