@@ -70,8 +70,8 @@ module _ (m : Member) where
 
     -- the ranges of both struts
     pub struts-in : required kind 11 ≡ true → (across : Across) → StrutRanges (strutOf m across)
-    struts-in has acrossHeight = record { length = ranges .braced has .lh; side = in-wide 20 2500 (lit≤ tt) (lit≤ tt) (ranges .sized .section .height) }
-    struts-in has acrossWidth = record { length = ranges .braced has .lb; side = in-wide 20 2500 (lit≤ tt) (lit≤ tt) (ranges .sized .section .width) }
+    struts-in has acrossHeight = record { L = ranges .braced has .lh; s = in-wide 20 2500 (lit≤ tt) (lit≤ tt) (ranges .sized .section .height) }
+    struts-in has acrossWidth = record { L = ranges .braced has .lb; s = in-wide 20 2500 (lit≤ tt) (lit≤ tt) (ranges .sized .section .width) }
 
     -- slenderness holds across the height or the width, where the row has that check
     steady : (across : Across) → required kind 11 ≡ true → Among (slenderness across) (yesNoChecks kind) → omitted m (yesNo (slenderness across)) ≡ false → ExactHold kind → Steady (limitOf m) (strutOf m across)

@@ -67,57 +67,42 @@ fn governing_check(m: Member) -> Governing
     ensures { λ r. ⌜ r ≡ governing m (strengthChecks (m .kind)) ⌝ }
 {
     let kind = m.kind;
+    let b = m.width;
+    let h = m.height;
+    let material = m.material;
     match kind {
         // check 5
-        Kind::Tension => against(
-            5,
-            m.force,
-            tension_resistance(m.width, m.height, m.material),
-        ),
+        Kind::Tension => against(5, m.force, tension_resistance(b, h, material)),
         // checks 7 and 8
-        Kind::Bending => {
-            let bending = against(
-                7,
-                m.moment,
-                moment_resistance(m.width, m.height, m.material),
-            );
-            greater(bending, shear_check(m.shear, m.width, m.height, m.material))
-        }
+        Kind::Bending => greater(
+            against(7, m.moment, moment_resistance(b, h, material)),
+            shear_check(m.shear, b, h, material),
+        ),
         // checks 9 and 10
         Kind::Compression => {
-            let nr = compression_resistance(m.width, m.height, m.material);
-            let height = strut(m.lh, m.height);
-            let width = strut(m.lb, m.width);
+            let nr = compression_resistance(b, h, material);
             greater(
-                buckling_check(9, m.force, nr, height),
-                buckling_check(10, m.force, nr, width),
+                buckling_check(9, m.force, nr, strut(m.lh, h)),
+                buckling_check(10, m.force, nr, strut(m.lb, b)),
             )
         }
         // checks 8 to 11
         Kind::CompressionBending => {
-            let nr = compression_resistance(m.width, m.height, m.material);
-            let mr = moment_resistance(m.width, m.height, m.material);
-            let height = strut(m.lh, m.height);
-            let width = strut(m.lb, m.width);
+            let nr = compression_resistance(b, h, material);
+            let mr = moment_resistance(b, h, material);
+            let height = strut(m.lh, h);
+            let across_height = buckling_check(9, m.force, nr, height);
+            let across_width = buckling_check(10, m.force, nr, strut(m.lb, b));
             let combined = compression_bending_check(m.force, m.moment, nr, mr, height);
-            let buckling = greater(
-                buckling_check(9, m.force, nr, height),
-                greater(buckling_check(10, m.force, nr, width), combined),
-            );
-            greater(
-                shear_check(m.shear, m.width, m.height, m.material),
-                buckling,
-            )
+            let buckling = greater(across_height, greater(across_width, combined));
+            greater(shear_check(m.shear, b, h, material), buckling)
         }
         // checks 8 and 11
         Kind::TensionBending => {
-            let nr = tension_resistance(m.width, m.height, m.material);
-            let mr = moment_resistance(m.width, m.height, m.material);
+            let nr = tension_resistance(b, h, material);
+            let mr = moment_resistance(b, h, material);
             let combined = used_at(11, tension_bending(m.force, m.moment, nr, mr));
-            greater(
-                shear_check(m.shear, m.width, m.height, m.material),
-                combined,
-            )
+            greater(shear_check(m.shear, b, h, material), combined)
         }
     }
 }

@@ -22,17 +22,17 @@ stocky-off strut pos h = up-le pos (omega arith)
 
 module _ {strut : Strut} (ranges : StrutRanges strut) where
   pos-s : 0 < s² strut
-  pos-s = omega (arith, in-mul (ranges .side) (ranges .side))
+  pos-s = omega (arith, in-mul (ranges .s) (ranges .s))
 
   pos-L : 0 < L² strut
-  pos-L = omega (arith, in-mul (ranges .length) (ranges .length))
+  pos-L = omega (arith, in-mul (ranges .L) (ranges .L))
 
   phi-in-by : (t : Bool) → stocky strut ≡ t → InPhi (cond t (stockyPhi strut) (slenderPhi strut))
   phi-in-by true e = omega (arith, stocky-off strut pos-s (leb-true _ _ e))
   phi-in-by false e =
       let over : 4900 * s² strut < 12 * L² strut = leb-false _ _ e in
       record {
-        low = in-div (lit< tt) (in-mul (in-lit 250000000) (in-mul (ranges .side) (ranges .side))) (in-mul (ranges .length) (ranges .length)) .low;
+        low = in-div (lit< tt) (in-mul (in-lit 250000000) (in-mul (ranges .s) (ranges .s))) (in-mul (ranges .L) (ranges .L)) .low;
         high = le-pred-of-lt (div-lt-iff-lt-mul {y = 1000001} pos-L .1 (omega arith));
       }
 

@@ -24,5 +24,5 @@ slendernessHolds limit strut = leb (12 * L² strut) (limit * limit * s² strut)
 
 -- the ranges of L, cells 11 and 12, and of s, cells 7 and 6
 pub record StrutRanges (strut : Strut) : Type 0 where
-  pub length : InLength (strut .length)
-  pub side : InSide (strut .side)
+  pub L : InLength (strut .length)
+  pub s : InSide (strut .side)

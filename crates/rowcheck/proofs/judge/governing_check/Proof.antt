@@ -55,20 +55,20 @@ compression-resistance-requires c κs = search needs
 strut-requires : tie.Need-strut-requires
 strut-requires c κs = search needs
 
-strut-requires-2 : tie.Need-strut-requires-2
-strut-requires-2 c κs = search needs
-
 buckling-check-requires : tie.Need-buckling-check-requires
 buckling-check-requires c κs =
-    let start = c .before .before .before in
-    let known = ranges _ (start .enum-told3 .given .1) (start .before .before .pre .0) in
-    (c .before .before .compression-resistance .ensures .range, strut-in (c .before .strut .ensures) (struts-in _ known refl acrossHeight))
+    let start = c .before .before in
+    let known = ranges _ (start .enum-told3 .given .1) (start .before .before .before .pre .0) in
+    (c .before .compression-resistance .ensures .range, strut-in (c .strut .ensures) (struts-in _ known refl acrossHeight))
+
+strut-requires-2 : tie.Need-strut-requires-2
+strut-requires-2 c κs = search needs
 
 buckling-check-requires-2 : tie.Need-buckling-check-requires-2
 buckling-check-requires-2 c κs =
     let start = c .before .before .before .before in
-    let known = ranges _ (start .enum-told3 .given .1) (start .before .before .pre .0) in
-    (c .before .before .before .compression-resistance .ensures .range, strut-in (c .before .strut2 .ensures) (struts-in _ known refl acrossWidth))
+    let known = ranges _ (start .enum-told3 .given .1) (start .before .before .before .pre .0) in
+    (c .before .before .before .compression-resistance .ensures .range, strut-in (c .strut2 .ensures) (struts-in _ known refl acrossWidth))
 
 greater-requires-2 : tie.Need-greater-requires-2
 greater-requires-2 c κs = search needs
@@ -85,31 +85,32 @@ moment-resistance-requires-2 c κs = search needs
 strut-requires-3 : tie.Need-strut-requires-3
 strut-requires-3 c κs = search needs
 
+buckling-check-requires-3 : tie.Need-buckling-check-requires-3
+buckling-check-requires-3 c κs =
+    let start = c .before .before .before in
+    let known = ranges _ (start .enum-told4 .given .1) (start .before .before .before .pre .0) in
+    (c .before .before .compression-resistance2 .ensures .range, strut-in (c .strut3 .ensures) (struts-in _ known refl acrossHeight))
+
 strut-requires-4 : tie.Need-strut-requires-4
 strut-requires-4 c κs = search needs
 
-compression-bending-check-requires : tie.Need-compression-bending-check-requires
-compression-bending-check-requires c κs =
-    let start = c .before .before .before .before in
-    let known = ranges _ (start .enum-told4 .given .1) (start .before .before .pre .0) in (
-      known .force refl,
-      known .moment refl,
-      c .before .before .before .compression-resistance2 .ensures .range,
-      c .before .before .moment-resistance2 .ensures .range,
-      strut-in (c .before .strut3 .ensures) (struts-in _ known refl acrossHeight),
-    )
-
-buckling-check-requires-3 : tie.Need-buckling-check-requires-3
-buckling-check-requires-3 c κs =
-    let start = c .before .before .before .before .before in
-    let known = ranges _ (start .enum-told4 .given .1) (start .before .before .pre .0) in
-    (c .before .before .before .before .compression-resistance2 .ensures .range, strut-in (c .before .before .strut3 .ensures) (struts-in _ known refl acrossHeight))
-
 buckling-check-requires-4 : tie.Need-buckling-check-requires-4
 buckling-check-requires-4 c κs =
-    let start = c .before .before .before .before .before .before in
-    let known = ranges _ (start .enum-told4 .given .1) (start .before .before .pre .0) in
-    (c .before .before .before .before .before .compression-resistance2 .ensures .range, strut-in (c .before .before .strut4 .ensures) (struts-in _ known refl acrossWidth))
+    let start = c .before .before .before .before .before in
+    let known = ranges _ (start .enum-told4 .given .1) (start .before .before .before .pre .0) in
+    (c .before .before .before .before .compression-resistance2 .ensures .range, strut-in (c .strut4 .ensures) (struts-in _ known refl acrossWidth))
+
+compression-bending-check-requires : tie.Need-compression-bending-check-requires
+compression-bending-check-requires c κs =
+    let height = c .before .before .before in
+    let start = height .before .before .before in
+    let known = ranges _ (start .enum-told4 .given .1) (start .before .before .before .pre .0) in (
+      known .force refl,
+      known .moment refl,
+      height .before .before .compression-resistance2 .ensures .range,
+      height .before .moment-resistance2 .ensures .range,
+      strut-in (height .strut3 .ensures) (struts-in _ known refl acrossHeight),
+    )
 
 greater-requires-3 : tie.Need-greater-requires-3
 greater-requires-3 c κs = search needs
@@ -119,8 +120,8 @@ greater-requires-4 c κs = search needs
 
 shear-check-requires-2 : tie.Need-shear-check-requires-2
 shear-check-requires-2 c κs =
-    let known = c .before .before .before .before .before .before .before .before .before .before .before .pre .0 in
-    (known .sized .section, known .sized .material)
+    let sized = c .before .before .before .before .before .before .before .before .before .before .before .before .pre .0 .sized in
+    (sized .section, sized .material)
 
 greater-requires-5 : tie.Need-greater-requires-5
 greater-requires-5 c κs = search needs
@@ -150,41 +151,41 @@ returns : tie.Need-returns
 unfolding greatest
 returns c =
     let start = c .before .before in
-    rw (start .before .before .pre .1, ← (c .before .tension-resistance .ensures .exact)) (c .against .ensures) ∙ agrees _ (start .enum-told .given .1)
+    rw (start .before .before .before .pre .1, ← (c .before .tension-resistance .ensures .exact)) (c .against .ensures) ∙ agrees _ (start .enum-told .given .1)
 
 returns-2 : tie.Need-returns-2
 returns-2 c =
     let moment = c .before .before in
     let start = moment .before .before in
-    governs _ _ refl (bending-found (start .before .before .args .m) (moment .before .moment-resistance .ensures .exact) (moment .against2 .ensures)) _
+    governs _ _ refl (bending-found (start .before .before .before .args .m) (moment .before .moment-resistance .ensures .exact) (moment .against2 .ensures)) _
     (only _ _ refl (c .before .shear-check .ensures))
     (c .greater .ensures)
     ∙ agrees _ (start .enum-told2 .given .1)
 
 returns-3 : tie.Need-returns-3
 returns-3 c =
-    let width = c .before .before .before in
-    let nr = width .before .before .compression-resistance .ensures .exact in
-    let start = width .before .before .before in
-    let m = start .before .before .args .m in
-    governs _ _ refl (buckling-found m acrossHeight nr (width .before .strut .ensures) (c .before .before .buckling-check .ensures)) _
+    let width = c .before .before in
+    let height = width .before .before in
+    let nr = height .before .compression-resistance .ensures .exact in
+    let start = height .before .before in
+    let m = start .before .before .before .args .m in
+    governs _ _ refl (buckling-found m acrossHeight nr (height .strut .ensures) (width .before .buckling-check .ensures)) _
     (only _ _ refl (buckling-found m acrossWidth nr (width .strut2 .ensures) (c .before .buckling-check2 .ensures)))
     (c .greater2 .ensures)
     ∙ agrees _ (start .enum-told3 .given .1)
 
 returns-4 : tie.Need-returns-4
 returns-4 c =
-    let buckling = c .before .before .before .before in
-    let combined = buckling .before .before in
+    let combined = c .before .before .before .before in
     let width = combined .before in
-    let height = width .before in
+    let height = width .before .before .before in
     let mr = height .before .moment-resistance2 .ensures .exact in
     let nr = height .before .before .compression-resistance2 .ensures .exact in
     let start = height .before .before .before in
-    let m = start .before .before .args .m in
+    let m = start .before .before .before .args .m in
     governs _ _ refl (c .before .shear-check2 .ensures) _
-    (governs _ _ refl (buckling-found m acrossHeight nr (height .strut3 .ensures) (buckling .before .buckling-check3 .ensures)) _
-    (governs _ _ refl (buckling-found m acrossWidth nr (width .strut4 .ensures) (buckling .buckling-check4 .ensures)) _
+    (governs _ _ refl (buckling-found m acrossHeight nr (height .strut3 .ensures) (width .before .before .buckling-check3 .ensures)) _
+    (governs _ _ refl (buckling-found m acrossWidth nr (width .before .strut4 .ensures) (width .buckling-check4 .ensures)) _
     (only _ _ refl (compression-bending-found m nr mr (height .strut3 .ensures) (combined .compression-bending-check .ensures)))
     (c .before .before .before .greater3 .ensures))
     (c .before .before .greater4 .ensures))
@@ -198,7 +199,7 @@ returns-5 c =
     let start = mr .before .before in
     governs _ _ refl (c .before .shear-check3 .ensures) _
     (only _ _ refl
-    (tension-bending-found (start .before .before .args .m) (mr .before .tension-resistance2 .ensures .exact) (mr .moment-resistance3 .ensures .exact) (combined .before .tension-bending .ensures .exact) (combined .used-at .ensures)))
+    (tension-bending-found (start .before .before .before .args .m) (mr .before .tension-resistance2 .ensures .exact) (mr .moment-resistance3 .ensures .exact) (combined .before .tension-bending .ensures .exact) (combined .used-at .ensures)))
     (c .greater6 .ensures)
     ∙ agrees _ (start .enum-told5 .given .1)
 
@@ -217,18 +218,18 @@ governing-check-spec =
     enum-told-3
     compression-resistance-requires
     strut-requires
-    strut-requires-2
     buckling-check-requires
+    strut-requires-2
     buckling-check-requires-2
     greater-requires-2
     enum-told-4
     compression-resistance-requires-2
     moment-resistance-requires-2
     strut-requires-3
-    strut-requires-4
-    compression-bending-check-requires
     buckling-check-requires-3
+    strut-requires-4
     buckling-check-requires-4
+    compression-bending-check-requires
     greater-requires-3
     greater-requires-4
     shear-check-requires-2

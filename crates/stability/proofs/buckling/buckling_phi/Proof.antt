@@ -12,28 +12,28 @@ use Rattle.stability.proofs.buckling.buckling_phi.Statement.{statement}
 use Rattle.stability.proofs.buckling.buckling_phi.Tie as tie
 
 mul-l2 : tie.Need-mul-l2
-mul-l2 c = omega (arith, in-mul (c .before .pre .length) (c .before .pre .length))
+mul-l2 c = omega (arith, in-mul (c .before .pre .L) (c .before .pre .L))
 
 mul-s2 : tie.Need-mul-s2
-mul-s2 c = omega (arith, in-mul (c .before .before .pre .side) (c .before .before .pre .side))
+mul-s2 c = omega (arith, in-mul (c .before .before .pre .s) (c .before .before .pre .s))
 
 mul-if1 : tie.Need-mul-if1
-mul-if1 c = omega (arith, in-mul (c .before .before .pre .length) (c .before .before .pre .length))
+mul-if1 c = omega (arith, in-mul (c .before .before .pre .L) (c .before .before .pre .L))
 
 mul-if1-2 : tie.Need-mul-if1-2
-mul-if1-2 c = omega (arith, in-mul (c .before .before .pre .side) (c .before .before .pre .side))
+mul-if1-2 c = omega (arith, in-mul (c .before .before .pre .s) (c .before .before .pre .s))
 
 mul-round-up : tie.Need-mul-round-up
-mul-round-up c = omega (arith, in-mul (c .before .before .before .pre .length) (c .before .before .before .pre .length))
+mul-round-up c = omega (arith, in-mul (c .before .before .before .pre .L) (c .before .before .before .pre .L))
 
 round-up-requires : tie.Need-round-up-requires
 round-up-requires c κs =
     let known = c .before .before .before .pre in
-    omega (arith, in-mul (known .length) (known .length), in-mul (known .side) (known .side))
+    omega (arith, in-mul (known .L) (known .L), in-mul (known .s) (known .s))
 
 sub-result : tie.Need-sub-result
 sub-result c =
-    let s2 = in-mul (c .before .before .before .before .pre .side) (c .before .before .before .before .pre .side) in
+    let s2 = in-mul (c .before .before .before .before .pre .s) (c .before .before .before .before .pre .s) in
     omega (arith, stocky-off (c .before .before .before .before .args .strut) (omega arith) (c .before .if1 .taken))
 
 slender-phi-requires : tie.Need-slender-phi-requires
