@@ -1,4 +1,4 @@
-// Slenderness and the strength checks, each of what it needs. Layout, joint length and checks 5 and 6 stand with the joint, in `rowcheck`.
+// Slenderness, the resistances of a member, and checks 8 to 11, each of what it needs. Checks 5 to 7 are a force against a resistance or a capacity of the joint, in `rowcheck`.
 use governing::utilisation::against;
 use governing::utilisation::used_at;
 use member::verdict::Governing;
@@ -12,27 +12,28 @@ use stability::buckling::buckling_capacity;
 use stability::buckling::buckling_phi;
 use stability::buckling::euler_capacity;
 use stability::combined::compression_bending;
+use stability::combined::tension_bending;
 use stability::slenderness::slenderness_holds;
 use strength::design::design_strength;
 use strength::tables::slenderness_limit;
 ghost use mathlib.Core.Path.{_≡_};
 ghost use mathlib.Core.Bool.{cond, _||_};
-ghost use lib.Dec.{eqb};
 ghost use Rattle.rounding.specs.Range.{Value};
 ghost use Rattle.rounding.specs.Utilisation.{utilisation};
 ghost use Rattle.sp64.specs.Buckling.{bucklingPhi, bucklingCapacity, eulerCapacity};
 ghost use Rattle.sp64.specs.Capacity.{Section, NR, MR, shearCapacity};
-ghost use Rattle.sp64.specs.Combined.{compressionBending};
+ghost use Rattle.sp64.specs.Combined.{compressionBendingUtilisation, tensionBendingUtilisation};
 ghost use Rattle.sp64.specs.Ranges.{InForce, InLimit, InMR, InMoment, InNR};
 ghost use Rattle.sp64.specs.Slenderness.{StrutRanges, slendernessHolds};
 ghost use Rattle.sp64.specs.Strength.{MaterialRanges, designStrength};
 ghost use Rattle.sp64.specs.Tables.{slendernessLimit};
 ghost use Rattle.sp64.specs.declared.tables.Stress.the-variants.{Compression, Shear, Tension};
+ghost use Rattle.member.specs.Checks.{withoutCheck3};
 
 // The first of checks 2 and 3 that fails, 0 where none does, of the struts across the height and across the width; row 4 of Table 16 omits check 3.
 pub fn first_too_slender(table16: u64, height: Strut, width: Strut) -> u32
     requires { ⌜ InLimit (slendernessLimit table16) × StrutRanges height × StrutRanges width ⌝ }
-    ensures { λ r. ⌜ r ≡ cond (slendernessHolds (slendernessLimit table16) height) (cond (eqb table16 4 || slendernessHolds (slendernessLimit table16) width) 0 3) 2 ⌝ }
+    ensures { λ r. ⌜ r ≡ cond (slendernessHolds (slendernessLimit table16) height) (cond (withoutCheck3 table16 || slendernessHolds (slendernessLimit table16) width) 0 3) 2 ⌝ }
 {
     let limit = slenderness_limit(table16);
     if !slenderness_holds(limit, height) {
@@ -89,8 +90,16 @@ pub fn buckling_check(check: u32, n: u64, nr: u64, strut: Strut) -> Governing
 // Check 11 of kind 4, with nr in compression and the strut across the height.
 pub fn compression_bending_check(n: u64, m: u64, nr: u64, mr: u64, height: Strut) -> Governing
     requires { ⌜ InForce n × InMoment m × InNR nr × InMR mr × StrutRanges height ⌝ }
-    ensures { λ r. ⌜ r ≡ record { check = 11; utilisation = compressionBending n m nr (eulerCapacity nr height) mr } ⌝ }
+    ensures { λ r. ⌜ r ≡ record { check = 11; utilisation = compressionBendingUtilisation n m nr (eulerCapacity nr height) mr } ⌝ }
 {
     let c = euler_capacity(nr, height);
     used_at(11, compression_bending(n, m, nr, c, mr))
+}
+
+// Check 11 of kind 5, with nr in tension.
+pub fn tension_bending_check(n: u64, m: u64, nr: u64, mr: u64) -> Governing
+    requires { ⌜ InNR nr × InMR mr ⌝ }
+    ensures { λ r. ⌜ r ≡ record { check = 11; utilisation = tensionBendingUtilisation n m nr mr } ⌝ }
+{
+    used_at(11, tension_bending(n, m, nr, mr))
 }

@@ -1,2 +1,2 @@
-// Slenderness and the strength checks.
+// Slenderness, the resistances of a member, and checks 8 to 11.
 pub mod checks;

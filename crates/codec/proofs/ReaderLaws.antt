@@ -87,7 +87,7 @@ module _ (bytes : List ℕ) (at after waiting : ℕ) (low : waiting < 2 ^ suc af
             value,
           )
 
--- ---- a step, from the place that `take_in` leaves
+-- ---- the next cell, from the place that `take_in` leaves
 
 module _ {bytes : List ℕ} {place : Cursor} (full : Cursor) (took : TookIn bytes place full) where
   -- nothing is on hand

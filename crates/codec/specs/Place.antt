@@ -53,7 +53,7 @@ pub record TookIn (bytes : List ℕ) (from to : Cursor) : Type 0 where
   pub same : leftAt bytes to ≡ leftAt bytes from
   pub full : to .count < 35 → to .at ≡ length bytes
 
--- what a step says of every parse from a place on
+-- what the next cell says of every parse from a place on
 abbrev pub Reads : List ℕ → Cursor → NextCell → Type 0
 Reads bytes place (Read cell next) =
     ((n i : ℕ) → parse (suc n) i (leftAt bytes place) ≡ before cell (parse n (suc i) (leftAt bytes next))) × Reached bytes next

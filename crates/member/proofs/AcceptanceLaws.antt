@@ -113,6 +113,14 @@ braced-cells Compression e = (refl, refl)
 braced-cells CompressionBending e = (refl, refl)
 braced-cells TensionBending e = (refl, refl)
 
+-- kinds 3 and 4 have a row of Table 16
+compressed-row : (kind : Kind) → compressed kind ≡ true → required kind 13 ≡ true
+compressed-row Tension e = refl
+compressed-row Bending e = e
+compressed-row Compression e = refl
+compressed-row CompressionBending e = refl
+compressed-row TensionBending e = refl
+
 -- the joint of a row that has begun one
 joint-in : (kind : Kind) (cells : List Cell) → length cells ≡ cellCount → kind ≡ Tension → Unbroken kind true cells → JointRanges (jointOf (valuesOf cells))
 joint-in kind cells whole e ok =
@@ -144,9 +152,9 @@ module _ (kind : Kind) {begun : Bool} (cells : List Cell) (whole : length cells 
   row-known : required kind 13 ≡ true → (leb 1 (slendernessLimit (here .table16)) ≡ true) × (Bool·beq (leb (here .table16) 3) (compressed kind) ≡ true)
   row-known e = both-true _ _ (code-known kind begun cells whole ok 12 (lit< tt) (always 13 e))
 
-  row-low : required kind 13 ≡ true → compressed kind ≡ true → here .table16 ≤ 3
-  row-low has e =
-      let same = ap (λ (t : Bool). Bool·beq (leb (here .table16) 3) t) (sym e) ∙ row-known has .1 in
+  row-low : compressed kind ≡ true → here .table16 ≤ 3
+  row-low e =
+      let same = ap (λ (t : Bool). Bool·beq (leb (here .table16) 3) t) (sym e) ∙ row-known (compressed-row kind e) .1 in
       leb-true _ _ (same-as-true _ same)
 
   -- it keeps the ranges of its kind

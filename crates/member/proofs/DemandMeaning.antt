@@ -19,7 +19,7 @@ use Rattle.member.specs.declared.member.Member.{Member}
 use Rattle.member.specs.declared.verdict.Verdict.{Verdict}
 use Rattle.member.proofs.VerdictLaws.{clash, yesNoNumber, yes-no-rising, FirstFailing, judge-meaning}
 use Rattle.member.proofs.DemandLaws.{strength-high, exact}
-use Rattle.member.proofs.Reliance.{joined}
+use Rattle.member.proofs.Reliance.{joint-known}
 
 -- the forces at which a failed check must fail: those of the row for layout and slenderness, k c thousandths of them for another check c
 abbrev pub failForces : (Check → ℕ) → Forces → Check → Forces
@@ -109,7 +109,7 @@ module _ (m : Member) (f : Forces) where
     pub count-between : RangesOf (m .kind) m → 0 < f .N .den → m .jointed ≡ true → ((c : Check) → LayoutOrSlenderness c → Has m c → Holds m f c)
         → (n : ℕ) × (n′ : ℕ) × CountFor m (f .N) n × CountFor m (scaled (k (yesNo jointLength)) (f .N)) n′ × (n ≤ v .count) × (v .count ≤ n′)
     count-between ranges real e laid =
-        let j = joined m ranges e in
+        let j = joint-known m ranges e in
         let low = count-exists (f .N) real (j .sized .section .width) (j .joint) (j .sized .material) in
         let high = count-exists (scaled (k (yesNo jointLength)) (f .N)) (scaled-real (k (yesNo jointLength)) (f .N) real) (j .sized .section .width) (j .joint) (j .sized .material) in
         (_, _, low, high, demand .count-above e laid _ low, demand .count-below e laid _ high)

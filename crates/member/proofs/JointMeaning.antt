@@ -22,7 +22,7 @@ use Rattle.member.specs.declared.kind.Kind.{Kind}
 use Rattle.member.specs.declared.member.Member.{Member}
 use Rattle.member.specs.declared.verdict.Verdict.{Verdict}
 use Rattle.member.proofs.AcceptanceLaws.{accept-ranges}
-use Rattle.member.proofs.Reliance.{joined}
+use Rattle.member.proofs.Reliance.{joint-known}
 use Rattle.member.proofs.DemandMeaning.{failed}
 
 -- the joint is too long for an axial force, unrounded: that of f
@@ -37,7 +37,7 @@ module _ (cells : List Cell) (m : Member) (whole : length cells ≡ cellCount) (
   -- at any forces whose N is a value
   fails-iff-at : (f : Forces) → 0 < f .N .den → (Holds m f (yesNo jointLength) → ⊥) ↔ JointTooLong m f
   fails-iff-at f real =
-      let j = joined m (accept-ranges cells m whole given) jointed in
+      let j = joint-known m (accept-ranges cells m whole given) jointed in
       joint-length-fails-iff (f .N) real (j .sized .section .width) (j .joint) (j .sized .material)
 
   -- check 4 fails exactly where the joint is too long: at the forces of the cells

@@ -30,7 +30,7 @@ use Rattle.member.specs.Ranges.{Sized}
 use Rattle.member.specs.Unrounded.{Forces, forcesOf, times, Holds}
 use Rattle.member.specs.declared.member.Member.{Member}
 use Rattle.member.proofs.AcceptanceLaws.{accept-ranges}
-use Rattle.member.proofs.Reliance.{LaidOut, ReliesOn, ExactHold, joined, relied-on}
+use Rattle.member.proofs.Reliance.{LaidOut, ReliesOn, ExactHold, joint-known, relied-on}
 
 -- N, M and Q are values
 pub record Real (f : Forces) : Type 0 where
@@ -183,7 +183,7 @@ module _ (cells : List Cell) (m : Member) (whole : length cells ≡ cellCount) (
   -- a joint's terms are above zero, whatever its layout
   pub joint-proper : m .jointed ≡ true → ProperJoint m
   joint-proper e =
-      let j = joined m (accept-ranges cells m whole given) e in
+      let j = joint-known m (accept-ranges cells m whole given) e in
       record {
         core = core-crushing-proper (j .sized .section .width) (j .joint) (j .sized .material);
         side = side-crushing-proper (j .sized .section .width) (j .joint) (j .sized .material);

@@ -26,7 +26,7 @@ use Rattle.member.proofs.VerdictLaws.{clash}
 use Rattle.member.proofs.DemandLaws.{slenderness-low}
 
 -- the joint and the force on it, cells 8 and 14 to 22
-pub record Joined (m : Member) : Type 0 where
+pub record JointKnown (m : Member) : Type 0 where
   pub sized : Sized m
   pub joint : JointRanges (m .joint)
   pub force : InForce (m .force)
@@ -53,8 +53,8 @@ module _ (m : Member) where
 
   module _ {kind : Kind} (ranges : RangesOf kind m) where
     -- a row with a joint is of kind 1
-    pub joined : m .jointed ≡ true → Joined m
-    joined e = record { sized = ranges .sized; joint = ranges .joint e; force = ranges .force (rw (ranges .tension e) refl) }
+    pub joint-known : m .jointed ≡ true → JointKnown m
+    joint-known e = record { sized = ranges .sized; joint = ranges .joint e; force = ranges .force (rw (ranges .tension e) refl) }
 
     -- a kind without cells of a joint has none
     pub unjointed : optional kind 14 ≡ false → m .jointed ≡ false
@@ -91,11 +91,11 @@ module _ (m : Member) where
   relied-on Bending ranges hold c (inr (inl e)) kept = rw e tt
   relied-on Bending ranges hold c (inr (inr a)) kept = absurd a
   relied-on Compression ranges hold c (inl e) kept = rw e (steady ranges acrossHeight refl (inl refl) refl hold)
-  relied-on Compression ranges hold c (inr (inl e)) kept = rw e (steady ranges acrossWidth refl (inr (inl refl)) (not-row-4 (ranges .table16 refl refl)) hold)
+  relied-on Compression ranges hold c (inr (inl e)) kept = rw e (steady ranges acrossWidth refl (inr (inl refl)) (not-row-4 (ranges .table16 refl)) hold)
   relied-on Compression ranges hold c (inr (inr a)) kept = absurd a
   relied-on CompressionBending ranges hold c (inl e) kept = rw e tt
   relied-on CompressionBending ranges hold c (inr (inl e)) kept = rw e (steady ranges acrossHeight refl (inl refl) refl hold)
-  relied-on CompressionBending ranges hold c (inr (inr (inl e))) kept = rw e (steady ranges acrossWidth refl (inr (inl refl)) (not-row-4 (ranges .table16 refl refl)) hold)
+  relied-on CompressionBending ranges hold c (inr (inr (inl e))) kept = rw e (steady ranges acrossWidth refl (inr (inl refl)) (not-row-4 (ranges .table16 refl)) hold)
   relied-on CompressionBending ranges hold c (inr (inr (inr (inl e)))) kept =
       rw e (steady ranges acrossHeight refl (inl refl) refl hold, ranges .force refl, ranges .moment refl)
   relied-on CompressionBending ranges hold c (inr (inr (inr (inr a)))) kept = absurd a

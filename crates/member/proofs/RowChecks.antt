@@ -17,7 +17,7 @@ use Rattle.member.specs.declared.kind.Kind.the-variants.{Bending}
 use Rattle.member.specs.declared.member.Member.{Member}
 use Rattle.member.proofs.VerdictLaws.{clash, AllHold}
 use Rattle.member.proofs.DemandLaws.{StrengthSound, ChecksSound, exact}
-use Rattle.member.proofs.Reliance.{LaidOut, ReliesOn, ExactHold, joined, unjointed, relied-on}
+use Rattle.member.proofs.Reliance.{LaidOut, ReliesOn, ExactHold, joint-known, unjointed, relied-on}
 
 -- the factors of the forces, in thousandths, from which on every check is sound
 abbrev pub soundFrom : Check → ℕ
@@ -77,7 +77,7 @@ module _ (m : Member) where
   -- the checks of a row at the forces of its cells
   pub checks-sound : RangesOf (m .kind) m → ChecksSound m (forcesOf m) soundFrom
   checks-sound ranges =
-      let joint = joined m ranges in
+      let joint = joint-known m ranges in
       record {
         length-pass = λ e h. let j = joint e in joint-length-pass (m .force) (j .sized .section .width) (j .joint) (j .sized .material) (rw e at h);
         length-fail = λ e h. let j = joint e in joint-length-fail (m .force) (j .sized .section .width) (j .joint) (j .sized .material) (rw e at h);

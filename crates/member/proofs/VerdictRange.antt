@@ -16,7 +16,7 @@ use Rattle.cells.specs.Refusal.{gives}
 use Rattle.cells.specs.Row.{cellCount}
 use Rattle.cells.specs.declared.row.Cell.{Cell}
 use Rattle.sp64.specs.Buckling.{eulerCapacity}
-use Rattle.sp64.specs.Combined.{axialShare, secondOrderMoment, combined, compressionBending as axialWithMoment}
+use Rattle.sp64.specs.Combined.{axialShare, secondOrderMoment, combined, compressionBendingUtilisation}
 use Rattle.sp64.specs.declared.tables.Stress.the-variants.{Compression}
 use Rattle.sp64.proofs.JointLaws.{count-in}
 use Rattle.member.specs.Acceptance.{acceptKind, accept}
@@ -28,7 +28,7 @@ use Rattle.member.specs.Verdict.{utilisationOf, countOnFail, judgeBy, ve
 use Rattle.member.specs.declared.member.Member.{Member}
 use Rattle.member.specs.declared.verdict.Verdict.{Verdict}
 use Rattle.member.proofs.AcceptanceLaws.{accept-ranges}
-use Rattle.member.proofs.Reliance.{joined}
+use Rattle.member.proofs.Reliance.{joint-known}
 use Rattle.member.proofs.VerdictLaws.{governs, VerdictOutcome, verdict-outcome}
 
 -- the numbers of a verdict
@@ -52,7 +52,7 @@ number-in (strength compressionBending) = omega arith
 number-in (strength tensionBending) = omega arith
 
 -- the utilisation of check 11 in kind 4 is capped, whichever way it comes about
-combined-most : (N M NR C MR : ℕ) → axialWithMoment N M NR C MR ≤ 9999999
+combined-most : (N M NR C MR : ℕ) → compressionBendingUtilisation N M NR C MR ≤ 9999999
 combined-most N M NR C MR = by (leb 1000000 (axialShare N C))
   where
     by : (t : Bool) → cond t 9999999 (combined N NR (secondOrderMoment M (axialShare N C)) MR) ≤ 9999999
@@ -76,7 +76,7 @@ module _ (m : Member) where
   count-most ranges = by (m .jointed) refl
     where
       by : (t : Bool) → m .jointed ≡ t → countOf m ≤ 6988121
-      by true e = let j = joined m ranges e in rw e (count-in (j .force) (j .sized .section .width) (j .joint) (j .sized .material) .high)
+      by true e = let j = joint-known m ranges e in rw e (count-in (j .force) (j .sized .section .width) (j .joint) (j .sized .material) .high)
       by false e = rw e (lit≤ tt)
 
   fail-count-most : RangesOf (m .kind) m → (c : YesNoCheck) → countOnFail m c ≤ 6988121

@@ -63,11 +63,15 @@ strengthChecks Compression = buckling acrossHeight ∷ buckling acrossWidth ∷ 
 strengthChecks CompressionBending = shear ∷ buckling acrossHeight ∷ buckling acrossWidth ∷ compressionBending ∷ []
 strengthChecks TensionBending = shear ∷ tensionBending ∷ []
 
+-- row 4 of Table 16 has no check 3
+abbrev pub withoutCheck3 : ℕ → Bool
+withoutCheck3 table16 = eqb table16 4
+
 -- the checks of a kind that a row does without: 1, 4 and 6 if it has no joint, 3 in row 4 of Table 16
 abbrev pub omitted : Member → Check → Bool
 omitted m (yesNo layout) = not (m .jointed)
 omitted m (yesNo (slenderness acrossHeight)) = false
-omitted m (yesNo (slenderness acrossWidth)) = eqb (m .table16) 4
+omitted m (yesNo (slenderness acrossWidth)) = withoutCheck3 (m .table16)
 omitted m (yesNo jointLength) = not (m .jointed)
 omitted m (strength netTension) = false
 omitted m (strength sidePieces) = not (m .jointed)

@@ -40,7 +40,7 @@ jointOf values =
       km = valueAt values 22;
     }
 
--- cells 2 to 22 by name, for a row of a kind with or without a joint
+-- the cells after the first by name, for a row of a kind with or without a joint
 abbrev pub memberOf : Kind → Bool → List ℕ → Member
 memberOf kind jointed values =
     record {

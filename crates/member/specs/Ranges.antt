@@ -31,7 +31,7 @@ pub record RangesOf (kind : Kind) (m : Member) : Type 0 where
   pub moment : required kind 9 ≡ true → InMoment (m .moment)
   pub braced : required kind 11 ≡ true → Braced m
   -- rows 1 to 3 of Table 16 in kinds 3 and 4
-  pub table16 : required kind 13 ≡ true → compressed kind ≡ true → m .table16 ≤ 3
+  pub table16 : compressed kind ≡ true → m .table16 ≤ 3
   -- kind 1 alone has a joint
   pub tension : m .jointed ≡ true → kind ≡ Tension
   pub joint : m .jointed ≡ true → JointRanges (m .joint)

@@ -8,7 +8,7 @@ use lib.Dec.{leb}
 use Rattle.rounding.specs.Utilisation.{utilisation}
 use Rattle.sp64.specs.Buckling.{bucklingPhi, bucklingCapacity, eulerCapacity}
 use Rattle.sp64.specs.Capacity.{netTensionCapacity, sidePieceCapacity, shearCapacity}
-use Rattle.sp64.specs.Combined.{compressionBending as axialWithMoment, tensionBending as tensionWithMoment}
+use Rattle.sp64.specs.Combined.{compressionBendingUtilisation, tensionBendingUtilisation}
 use Rattle.sp64.specs.Joint.{layoutHolds, jointLengthHolds}
 use Rattle.sp64.specs.Slenderness.{slendernessHolds}
 use Rattle.sp64.specs.Strength.{designStrength}
@@ -45,12 +45,12 @@ utilisationOf m shear = utilisation (m .shear) (shearCapacity (m .width) (m .hei
 utilisationOf m (buckling across) =
     utilisation (m .force) (bucklingCapacity (NRof Compression m) (bucklingPhi (strutOf m across)))
 utilisationOf m compressionBending =
-    axialWithMoment (m .force) (m .moment)
+    compressionBendingUtilisation (m .force) (m .moment)
     (NRof Compression m)
     (eulerCapacity (NRof Compression m) (strutOf m acrossHeight))
     (MRof m)
 utilisationOf m tensionBending =
-    tensionWithMoment (m .force) (m .moment) (NRof Tension m) (MRof m)
+    tensionBendingUtilisation (m .force) (m .moment) (NRof Tension m) (MRof m)
 
 -- a strength check with its utilisation
 abbrev pub used : Member → StrengthCheck → Governing

@@ -40,19 +40,19 @@ abbrev pub unreadable : ℕ → HostCell → Bool
 unreadable n cell = isUnreadable (readCell cell)
 
 -- the slots that a loop over readable cells fills
-abbrev pub wanted : List HostCell → List Slot
-wanted cells = rowOf (asRead cells) .cells
+abbrev pub slotsRead : List HostCell → List Slot
+slotsRead cells = rowOf (asRead cells) .cells
 
 -- a search for an unreadable cell that has come to cell i, which reads as r
 pub search-on : (cells : List HostCell) (i : ℕ) (r : Reading) → i < length cells → r ≡ readCell (getD cells i Empty)
     → lowest unreadable (i + 1) (drop i cells) ≡ cond (isUnreadable r) (i + 1) (lowest unreadable (i + 1 + 1) (drop (i + 1) cells))
 search-on cells i r h e = lowest-step unreadable cells i (i + 1) Empty (isUnreadable r) h (ap isUnreadable (sym e))
 
-pub wanted-length : (cells : List HostCell) → length (wanted cells) ≡ length cells
-wanted-length cells = length-map (asRead cells) (λ (cell : Cell). record { cell = cell }) ∙ length-map cells (λ (cell : HostCell). cellRead (readCell cell))
+pub slots-read-length : (cells : List HostCell) → length (slotsRead cells) ≡ length cells
+slots-read-length cells = length-map (asRead cells) (λ (cell : Cell). record { cell = cell }) ∙ length-map cells (λ (cell : HostCell). cellRead (readCell cell))
 
-pub wanted-at : (cells : List HostCell) (i : ℕ) (r : Reading) → r ≡ readCell (getD cells i Empty)
-    → getD (wanted cells) i (record { cell = Blank }) ≡ record { cell = cellRead r }
-wanted-at cells i r e =
+pub slots-read-at : (cells : List HostCell) (i : ℕ) (r : Reading) → r ≡ readCell (getD cells i Empty)
+    → getD (slotsRead cells) i (record { cell = Blank }) ≡ record { cell = cellRead r }
+slots-read-at cells i r e =
     List·getD-map (λ (cell : Cell). record { cell = cell }) (asRead cells) i Blank
     ∙ ap (λ (cell : Cell). record { cell = cell }) (List·getD-map (λ (cell : HostCell). cellRead (readCell cell)) cells i Empty ∙ ap cellRead (sym e))

@@ -11,13 +11,13 @@ use borrow.Author.Tests.{not-true, not-false, leb-true, ne-eqb}
 use Rattle.cells.specs.Greatest.{orGreater, greatest}
 use Rattle.rounding.specs.Utilisation.{utilisation}
 use Rattle.sp64.specs.Buckling.{bucklingPhi, bucklingCapacity, eulerCapacity}
-use Rattle.sp64.specs.Combined.{compressionBending as axialWithMoment, tensionBending as tensionWithMoment}
+use Rattle.sp64.specs.Combined.{compressionBendingUtilisation, tensionBendingUtilisation}
 use Rattle.sp64.specs.Joint.{Layout}
 use Rattle.sp64.specs.Slenderness.{StrutRanges, slendernessHolds}
 use Rattle.sp64.specs.declared.strut.Strut.{Strut}
 use Rattle.sp64.specs.declared.tables.Stress.the-variants.{Compression as compressionStress, Tension as tensionStress}
 use Rattle.member.specs.Cells.{required}
-use Rattle.member.specs.Checks.{YesNoCheck, StrengthCheck, yesNo, strength, checkNumber, yesNoChecks, strengthChecks, omitted, layout, slenderness, jointLength, bending, buckling, compressionBending, tensionBending}
+use Rattle.member.specs.Checks.{YesNoCheck, StrengthCheck, yesNo, strength, checkNumber, withoutCheck3, yesNoChecks, strengthChecks, omitted, layout, slenderness, jointLength, bending, buckling, compressionBending, tensionBending}
 use Rattle.member.specs.Member.{Across, acrossHeight, acrossWidth, strutOf, limitOf, countOf, NRof, MRof}
 use Rattle.member.specs.Verdict.{holds, utilisationOf, used, greaterOf, governedBy, hasStrength, governing, judgeBy, failedOn, byStrength, verdict}
 use Rattle.member.specs.declared.kind.Kind.{Kind}
@@ -25,31 +25,31 @@ use Rattle.member.specs.declared.kind.Kind.the-variants.{Tension, Bending, Comp
 use Rattle.member.specs.declared.member.Member.{Member}
 use Rattle.member.specs.declared.verdict.Governing.{Governing}
 use Rattle.member.specs.declared.verdict.Verdict.{Verdict}
-use Rattle.rowcheck.specs.FirstFailed.{firstFailed, exactOf}
+use Rattle.rowcheck.specs.FirstFailed.{firstFailed}
 
 -- Layout and slenderness, of which the code finds the first that fails.
 module _ (m : Member) where
   abbrev struts : List YesNoCheck
   struts = slenderness acrossHeight ∷ slenderness acrossWidth ∷ []
 
-  -- the code's tests of check 1, and of checks 2 and 3 with the struts s and t
+  -- the code's test of check 1, and what it finds for checks 2 and 3 with the struts s and t
   abbrev laidOut : Bool
   laidOut = omitted m (yesNo layout) || holds m layout
 
   abbrev tooSlender : Strut → Strut → ℕ
-  tooSlender s t = cond (slendernessHolds (limitOf m) s) (cond (eqb (m .table16) 4 || slendernessHolds (limitOf m) t) 0 3) 2
+  tooSlender s t = cond (slendernessHolds (limitOf m) s) (cond (withoutCheck3 (m .table16) || slendernessHolds (limitOf m) t) 0 3) 2
 
   -- check 1 fails: the row is of kind 1, which has it first
-  pub layout-first : m .kind ≡ Tension → laidOut ≡ false → 1 ≡ firstFailed m (exactOf (m .kind))
+  pub layout-first : m .kind ≡ Tension → laidOut ≡ false → 1 ≡ firstFailed m (yesNoChecks (m .kind))
   unfolding firstFailed
   layout-first e fails = rw (e, fails) refl
 
   -- a kind without effective lengths has none of the three
-  pub no-slenderness : required (m .kind) 11 ≡ false → 0 ≡ firstFailed m (exactOf (m .kind))
+  pub no-slenderness : required (m .kind) 11 ≡ false → 0 ≡ firstFailed m (yesNoChecks (m .kind))
   unfolding firstFailed
   no-slenderness = by (m .kind)
     where
-      by : (kind : Kind) → required kind 11 ≡ false → 0 ≡ firstFailed m (exactOf kind)
+      by : (kind : Kind) → required kind 11 ≡ false → 0 ≡ firstFailed m (yesNoChecks kind)
       by Tension e = absurd (true≢false e)
       by Bending e = refl
       by Compression e = absurd (true≢false e)
@@ -57,36 +57,36 @@ module _ (m : Member) where
       by TensionBending e = absurd (true≢false e)
 
   -- in the others checks 2 and 3 decide, where check 1 holds or is not one of the row's
-  pub slender-first : {s t : Strut} {n : ℕ} → s ≡ strutOf m acrossHeight → t ≡ strutOf m acrossWidth → n ≡ tooSlender s t → required (m .kind) 11 ≡ true → laidOut ≡ true → n ≡ firstFailed m (exactOf (m .kind))
+  pub slender-first : {s t : Strut} {n : ℕ} → s ≡ strutOf m acrossHeight → t ≡ strutOf m acrossWidth → n ≡ tooSlender s t → required (m .kind) 11 ≡ true → laidOut ≡ true → n ≡ firstFailed m (yesNoChecks (m .kind))
   unfolding firstFailed
   slender-first high wide found has laid = found ∙ ap₂ tooSlender high wide ∙ by (m .kind) has
     where
-      by : (kind : Kind) → required kind 11 ≡ true → firstFailed m struts ≡ firstFailed m (exactOf kind)
+      by : (kind : Kind) → required kind 11 ≡ true → firstFailed m struts ≡ firstFailed m (yesNoChecks kind)
       by Tension e = rw laid refl
       by Bending e = absurd (true≢false (sym e))
       by Compression e = refl
       by CompressionBending e = refl
       by TensionBending e = refl
 
-  -- the first that fails gives the verdict; where none does, the rest of the list gives it
+  -- the first that fails gives the verdict; where none does, joint length is left, if it is among the checks
   abbrev ByFirst : List YesNoCheck → List YesNoCheck → Verdict → Type 0
-  ByFirst checks rest v = judgeBy m (checks ++ rest) v ≡ cond (eqb (firstFailed m checks) 0) (judgeBy m rest v) (failedOn (firstFailed m checks) 0)
+  ByFirst checks rest v = judgeBy m checks v ≡ cond (eqb (firstFailed m checks) 0) (judgeBy m rest v) (failedOn (firstFailed m checks) 0)
 
-  struts-decide : (rest : List YesNoCheck) (v : Verdict) → ByFirst struts rest v
+  struts-decide : (rest : List YesNoCheck) (v : Verdict) → firstFailed m rest ≡ 0 → ByFirst (struts ++ rest) rest v
   unfolding judgeBy firstFailed
-  struts-decide rest v = by (holds m (slenderness acrossHeight)) (omitted m (yesNo (slenderness acrossWidth)) || holds m (slenderness acrossWidth))
+  struts-decide rest v zero = rw zero (by (holds m (slenderness acrossHeight)) (omitted m (yesNo (slenderness acrossWidth)) || holds m (slenderness acrossWidth)))
     where
       by : (x y : Bool) → cond x (cond y (judgeBy m rest v) (failedOn 3 0)) (failedOn 2 0) ≡ cond (eqb (cond x (cond y 0 3) 2) 0) (judgeBy m rest v) (failedOn (cond x (cond y 0 3) 2) 0)
       by true true = refl
       by true false = refl
       by false y = refl
 
-  layout-decides : (rest : List YesNoCheck) (v : Verdict) → ByFirst (layout ∷ struts) rest v
+  layout-decides : (v : Verdict) → ByFirst (yesNoChecks Tension) (jointLength ∷ []) v
   unfolding judgeBy firstFailed
-  layout-decides rest v = by laidOut refl
+  layout-decides v = by laidOut refl
     where
-      by : (t : Bool) → laidOut ≡ t → ByFirst (layout ∷ struts) rest v
-      by true e = rw e (struts-decide rest v)
+      by : (t : Bool) → laidOut ≡ t → ByFirst (yesNoChecks Tension) (jointLength ∷ []) v
+      by true e = rw e (struts-decide (jointLength ∷ []) v refl)
       by false e = rw e refl
 
   -- what is left of a kind's yes-or-no checks after the three
@@ -97,19 +97,19 @@ module _ (m : Member) where
   lengthChecks CompressionBending = []
   lengthChecks TensionBending = []
 
-  first-decides : (kind : Kind) (v : Verdict) → judgeBy m (yesNoChecks kind) v ≡ cond (eqb (firstFailed m (exactOf kind)) 0) (judgeBy m (lengthChecks kind) v) (failedOn (firstFailed m (exactOf kind)) 0)
+  first-decides : (kind : Kind) (v : Verdict) → ByFirst (yesNoChecks kind) (lengthChecks kind) v
   unfolding firstFailed
-  first-decides Tension v = layout-decides (jointLength ∷ []) v
+  first-decides Tension v = layout-decides v
   first-decides Bending v = refl
-  first-decides Compression v = struts-decide [] v
-  first-decides CompressionBending v = struts-decide [] v
-  first-decides TensionBending v = struts-decide [] v
+  first-decides Compression v = struts-decide [] v refl
+  first-decides CompressionBending v = struts-decide [] v refl
+  first-decides TensionBending v = struts-decide [] v refl
 
   abbrev strengthVerdict : Kind → Verdict
   strengthVerdict kind = byStrength (governing m (strengthChecks kind)) (countOf m)
 
   -- the code finds n
-  module _ {n : ℕ} (found : n ≡ firstFailed m (exactOf (m .kind))) where
+  module _ {n : ℕ} (found : n ≡ firstFailed m (yesNoChecks (m .kind))) where
     -- one fails
     pub first-gives : (n ≡ 0 → ⊥) → failedOn n 0 ≡ verdict m
     first-gives fails = rw (first-decides (m .kind) (strengthVerdict (m .kind)), ← found, ne-eqb n 0 fails) refl
@@ -175,9 +175,9 @@ module _ (m : Member) (c : StrengthCheck) {x : Governing} (kept : omitted m (str
   only = rw kept found
 
   -- the code compares it with y, which governs the rest
-  pub governs : (checks : List StrengthCheck) {y g : Governing} → y ≡ governing m checks → g ≡ greaterOf x y → g ≡ governing m (c ∷ checks)
+  pub next-governs : (checks : List StrengthCheck) {y g : Governing} → y ≡ governing m checks → g ≡ greaterOf x y → g ≡ governing m (c ∷ checks)
   unfolding greatest
-  governs checks rest e = rw kept (e ∙ ap₂ greaterOf found rest ∙ greater-of m c (greatest (hasStrength m) (utilisationOf m) checks))
+  next-governs checks rest e = rw kept (e ∙ ap₂ greaterOf found rest ∙ greater-of m c (greatest (hasStrength m) (utilisationOf m) checks))
 
 -- a strut that the code makes is in its ranges as the member's is
 pub strut-in : {s t : Strut} → s ≡ t → StrutRanges t → StrutRanges s
@@ -197,12 +197,11 @@ module _ (m : Member) where
       found ∙ ap₂ (λ (nr : ℕ) (strut : Strut). at (checkNumber (strength (buckling across))) (utilisation (m .force) (bucklingCapacity nr (bucklingPhi strut)))) e s
 
   pub compression-bending-found : {nr mr : ℕ} {strut : Strut} {x : Governing} → nr ≡ NRof compressionStress m → mr ≡ MRof m → strut ≡ strutOf m acrossHeight
-      → x ≡ at 11 (axialWithMoment (m .force) (m .moment) nr (eulerCapacity nr strut) mr) → x ≡ used m compressionBending
+      → x ≡ at 11 (compressionBendingUtilisation (m .force) (m .moment) nr (eulerCapacity nr strut) mr) → x ≡ used m compressionBending
   compression-bending-found {nr} {mr} {strut} e f s found =
       found
-      ∙ ap (λ (strut : Strut). at 11 (axialWithMoment (m .force) (m .moment) nr (eulerCapacity nr strut) mr)) s
-      ∙ ap₂ (λ (nr mr : ℕ). at 11 (axialWithMoment (m .force) (m .moment) nr (eulerCapacity nr (strutOf m acrossHeight)) mr)) e f
+      ∙ ap (λ (strut : Strut). at 11 (compressionBendingUtilisation (m .force) (m .moment) nr (eulerCapacity nr strut) mr)) s
+      ∙ ap₂ (λ (nr mr : ℕ). at 11 (compressionBendingUtilisation (m .force) (m .moment) nr (eulerCapacity nr (strutOf m acrossHeight)) mr)) e f
 
-  pub tension-bending-found : {nr mr u : ℕ} {x : Governing} → nr ≡ NRof tensionStress m → mr ≡ MRof m → u ≡ tensionWithMoment (m .force) (m .moment) nr mr → x ≡ at 11 u → x ≡ used m tensionBending
-  tension-bending-found e f g found =
-      found ∙ ap (at 11) (g ∙ ap₂ (λ (nr mr : ℕ). tensionWithMoment (m .force) (m .moment) nr mr) e f)
+  pub tension-bending-found : {nr mr : ℕ} {x : Governing} → nr ≡ NRof tensionStress m → mr ≡ MRof m → x ≡ at 11 (tensionBendingUtilisation (m .force) (m .moment) nr mr) → x ≡ used m tensionBending
+  tension-bending-found e f found = found ∙ ap₂ (λ (nr mr : ℕ). at 11 (tensionBendingUtilisation (m .force) (m .moment) nr mr)) e f

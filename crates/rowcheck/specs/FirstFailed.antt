@@ -3,22 +3,13 @@
 use Prim.Native.Nat.{ℕ}
 use mathlib.Core.Bool.{cond, _||_}
 use mathlib.Core.List.{List, [], _∷_}
-use Rattle.member.specs.Checks.{YesNoCheck, yesNo, checkNumber, omitted, layout, slenderness}
-use Rattle.member.specs.Member.{acrossHeight, acrossWidth}
+use lib.Dec.{leb}
+use Rattle.member.specs.Checks.{YesNoCheck, yesNo, checkNumber, omitted}
 use Rattle.member.specs.Verdict.{holds}
-use Rattle.member.specs.declared.kind.Kind.{Kind}
-use Rattle.member.specs.declared.kind.Kind.the-variants.{Tension, Bending, Compression, CompressionBending, TensionBending}
 use Rattle.member.specs.declared.member.Member.{Member}
 
--- of these checks, the number of the first that the row has and that fails, 0 where none does
+-- of layout and slenderness, checks 1 to 3, among these checks, the number of the first that the row has and that fails, 0 where none does
 unfoldable pub firstFailed : Member → List YesNoCheck → ℕ
 firstFailed m [] = 0
-firstFailed m (c ∷ checks) = cond (omitted m (yesNo c) || holds m c) (firstFailed m checks) (checkNumber (yesNo c))
-
--- the checks of layout and slenderness that a kind has
-abbrev pub exactOf : Kind → List YesNoCheck
-exactOf Tension = layout ∷ slenderness acrossHeight ∷ slenderness acrossWidth ∷ []
-exactOf Bending = []
-exactOf Compression = slenderness acrossHeight ∷ slenderness acrossWidth ∷ []
-exactOf CompressionBending = slenderness acrossHeight ∷ slenderness acrossWidth ∷ []
-exactOf TensionBending = slenderness acrossHeight ∷ slenderness acrossWidth ∷ []
+firstFailed m (c ∷ checks) =
+    cond (leb 4 (checkNumber (yesNo c)) || (omitted m (yesNo c) || holds m c)) (firstFailed m checks) (checkNumber (yesNo c))

@@ -6,12 +6,12 @@ use checks::checks::compression_resistance;
 use checks::checks::first_too_slender;
 use checks::checks::moment_resistance;
 use checks::checks::shear_check;
+use checks::checks::tension_bending_check;
 use checks::checks::tension_resistance;
 use dowels::joint::joint_count;
 use dowels::joint::joint_length_holds;
 use dowels::joint::layout_holds;
 use governing::utilisation::against;
-use governing::utilisation::used_at;
 use governing::verdicts::by_strength;
 use governing::verdicts::failed_on;
 use governing::verdicts::greater;
@@ -22,8 +22,8 @@ use member::verdict::Verdict;
 use section::capacity::net_tension_capacity;
 use section::capacity::side_piece_capacity;
 use sp64::joint::Joint;
+use sp64::strut::Strut;
 use sp64::tables::Stress;
-use stability::combined::tension_bending;
 use stability::strut::strut;
 use strength::design::design_strength;
 ghost use mathlib.Core.Path.{_≡_};
@@ -31,12 +31,12 @@ ghost use mathlib.Core.Bool.{true, false, not, _||_};
 ghost use mathlib.Core.List.{[], _∷_};
 ghost use Rattle.sp64.specs.Joint.{JointRanges, Layout, layoutHolds};
 ghost use Rattle.sp64.specs.Ranges.{InForce, InHeight};
-ghost use Rattle.member.specs.Checks.{jointLength, strengthChecks};
-ghost use Rattle.member.specs.Member.{countOf};
+ghost use Rattle.member.specs.Checks.{jointLength, strengthChecks, yesNoChecks};
+ghost use Rattle.member.specs.Member.{acrossHeight, acrossWidth, countOf, strutOf};
 ghost use Rattle.member.specs.Ranges.{Sized, RangesOf};
 ghost use Rattle.member.specs.Verdict.{byStrength, governing, judgeBy, verdict};
 ghost use Rattle.member.specs.declared.kind.Kind.the-variants.{Tension};
-ghost use Rattle.rowcheck.specs.FirstFailed.{firstFailed, exactOf};
+ghost use Rattle.rowcheck.specs.FirstFailed.{firstFailed};
 
 // Check 1 holds, or there is no joint.
 fn laid_out(jointed: bool, h: u64, j: Joint) -> bool
@@ -47,9 +47,9 @@ fn laid_out(jointed: bool, h: u64, j: Joint) -> bool
 }
 
 // The first of layout and slenderness that fails, 0 where none does. A kind has the checks of slenderness where it has the effective lengths, from cell 11 on.
-fn first_failed(m: Member) -> u32
-    requires { ⌜ RangesOf (m .kind) m ⌝ }
-    ensures { λ r. ⌜ r ≡ firstFailed m (exactOf (m .kind)) ⌝ }
+fn first_failed(m: Member, height: Strut, width: Strut) -> u32
+    requires { ⌜ RangesOf (m .kind) m × (height ≡ strutOf m acrossHeight) × (width ≡ strutOf m acrossWidth) ⌝ }
+    ensures { λ r. ⌜ r ≡ firstFailed m (yesNoChecks (m .kind)) ⌝ }
 {
     if !laid_out(m.jointed, m.height, m.joint) {
         return 1;
@@ -58,12 +58,12 @@ fn first_failed(m: Member) -> u32
     if !is_required(kind, 11) {
         return 0;
     }
-    first_too_slender(m.table16, strut(m.lh, m.height), strut(m.lb, m.width))
+    first_too_slender(m.table16, height, width)
 }
 
 // The strength check that governs a member without a joint.
-fn governing_check(m: Member) -> Governing
-    requires { ⌜ RangesOf (m .kind) m × (m .jointed ≡ false) ⌝ }
+fn governing_check(m: Member, height: Strut, width: Strut) -> Governing
+    requires { ⌜ RangesOf (m .kind) m × (m .jointed ≡ false) × (height ≡ strutOf m acrossHeight) × (width ≡ strutOf m acrossWidth) ⌝ }
     ensures { λ r. ⌜ r ≡ governing m (strengthChecks (m .kind)) ⌝ }
 {
     let kind = m.kind;
@@ -81,18 +81,15 @@ fn governing_check(m: Member) -> Governing
         // checks 9 and 10
         Kind::Compression => {
             let nr = compression_resistance(b, h, material);
-            greater(
-                buckling_check(9, m.force, nr, strut(m.lh, h)),
-                buckling_check(10, m.force, nr, strut(m.lb, b)),
-            )
+            let across_height = buckling_check(9, m.force, nr, height);
+            greater(across_height, buckling_check(10, m.force, nr, width))
         }
         // checks 8 to 11
         Kind::CompressionBending => {
             let nr = compression_resistance(b, h, material);
             let mr = moment_resistance(b, h, material);
-            let height = strut(m.lh, h);
             let across_height = buckling_check(9, m.force, nr, height);
-            let across_width = buckling_check(10, m.force, nr, strut(m.lb, b));
+            let across_width = buckling_check(10, m.force, nr, width);
             let combined = compression_bending_check(m.force, m.moment, nr, mr, height);
             let buckling = greater(across_height, greater(across_width, combined));
             greater(shear_check(m.shear, b, h, material), buckling)
@@ -101,7 +98,7 @@ fn governing_check(m: Member) -> Governing
         Kind::TensionBending => {
             let nr = tension_resistance(b, h, material);
             let mr = moment_resistance(b, h, material);
-            let combined = used_at(11, tension_bending(m.force, m.moment, nr, mr));
+            let combined = tension_bending_check(m.force, m.moment, nr, mr);
             greater(shear_check(m.shear, b, h, material), combined)
         }
     }
@@ -131,13 +128,15 @@ pub fn judge(m: Member) -> Verdict
     requires { ⌜ RangesOf (m .kind) m ⌝ }
     ensures { λ r. ⌜ r ≡ verdict m ⌝ }
 {
-    let failed = first_failed(m);
+    let height = strut(m.lh, m.height);
+    let width = strut(m.lb, m.width);
+    let failed = first_failed(m, height, width);
     if failed != 0 {
         return failed_on(failed, 0);
     }
     if m.jointed {
         judge_joint(m)
     } else {
-        by_strength(governing_check(m), 0)
+        by_strength(governing_check(m, height, width), 0)
     }
 }

@@ -13,7 +13,7 @@ use Rattle.rounding.proofs.RoundingLaws.{rounding-up, lt-up}
 use Rattle.rounding.proofs.FractionLaws.{sum-over, sum-under}
 use Rattle.rounding.proofs.Near.{Near, near-pos, near-wide}
 use Rattle.rounding.proofs.Soundness.{Sound}
-use Rattle.sp64.specs.Combined.{axialShare, exactAxialShare, secondOrderMoment, exactSecondOrderMoment, combined, compressionBending, ExactCompressionBending, tensionBending, ExactTensionBending}
+use Rattle.sp64.specs.Combined.{axialShare, exactAxialShare, secondOrderMoment, exactSecondOrderMoment, combined, compressionBendingUtilisation, ExactCompressionBending, tensionBendingUtilisation, ExactTensionBending}
 
 -- k N / x is at least 100 k u parts of 1,000,000 g, where N against the rounded a comes to at least u millionths
 ratio-over : (N u k : ℕ) {l g a : ℕ} {x : Fraction} → Near l 100000 g a x → u * a ≤ 1000000 * N → fraction (k * 100 * u) (g * 1000000) ≼ scaled k (whole N) ⊘ x
@@ -54,7 +54,7 @@ moment-less B m Md low h = omega (arith, mul-sub m B 15)
 abbrev pub CompressionBendingSound : ℕ → ℕ → ℕ → ℕ → ℕ → ℕ → Fraction → Fraction → Fraction → Type 0
 CompressionBendingSound k₀ N M a c m xa xc xm =
     Sound k₀
-    (compressionBending N M a c m)
+    (compressionBendingUtilisation N M a c m)
     (ExactCompressionBending (whole N) (whole M) xa xc xm)
     (λ k. ExactCompressionBending (scaled k (whole N)) (scaled k (whole M)) xa xc xm)
 
@@ -62,7 +62,7 @@ CompressionBendingSound k₀ N M a c m xa xc xm =
 abbrev pub TensionBendingSound : ℕ → ℕ → ℕ → ℕ → ℕ → Fraction → Fraction → Type 0
 TensionBendingSound k₀ N M a m xa xm =
     Sound k₀
-    (tensionBending N M a m)
+    (tensionBendingUtilisation N M a m)
     (ExactTensionBending (whole N) (whole M) xa xm)
     (λ k. ExactTensionBending (scaled k (whole N)) (scaled k (whole M)) xa xm)
 
@@ -219,7 +219,7 @@ module _ (N M : ℕ) {l l′ ga gm a m k₀ : ℕ} {xa xm : Fraction} (na : Near
   pos-m5 : 0 < m
   pos-m5 = omega (arith, nm .low)
 
-  tension-bending-fail : (k : ℕ) → k₀ ≤ k → 1000000 < tensionBending N M a m → ExactTensionBending (scaled k (whole N)) (scaled k (whole M)) xa xm → ⊥
+  tension-bending-fail : (k : ℕ) → k₀ ≤ k → 1000000 < tensionBendingUtilisation N M a m → ExactTensionBending (scaled k (whole N)) (scaled k (whole M)) xa xm → ⊥
   tension-bending-fail k big h holds =
       let u = up (1000000 * N) a - 1 in
       let v = up (1000000 * M) m - 1 in
@@ -237,7 +237,7 @@ module _ (N M : ℕ) {l l′ ga gm a m k₀ : ℕ} {xa xm : Fraction} (na : Near
       (omega (arith, mul-le-mul big w))
       holds
 
-  tension-bending-pass : tensionBending N M a m ≤ 1000000 → ExactTensionBending (whole N) (whole M) xa xm
+  tension-bending-pass : tensionBendingUtilisation N M a m ≤ 1000000 → ExactTensionBending (whole N) (whole M) xa xm
   tension-bending-pass h =
       sum-under
       (whole N ⊘ xa)

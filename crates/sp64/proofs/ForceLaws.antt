@@ -9,7 +9,7 @@ use borrow.Author.Tests.{leb-true, leb-false, le-leb}
 use lib.Dec.{leb}
 use Rattle.rounding.proofs.RoundingLaws.{up-more, up-less}
 use Rattle.rounding.proofs.Soundness.{utilisation-more}
-use Rattle.sp64.specs.Combined.{axialShare, secondOrderMoment, combined, compressionBending, tensionBending}
+use Rattle.sp64.specs.Combined.{axialShare, secondOrderMoment, combined, compressionBendingUtilisation, tensionBendingUtilisation}
 use Rattle.sp64.specs.Joint.{dowelCapacity, jointCount, columns, jointLengthHolds}
 use Rattle.sp64.specs.declared.joint.Joint.{Joint}
 use Rattle.sp64.specs.declared.strength.Material.{Material}
@@ -20,18 +20,18 @@ combined-more : (NR MR : ℕ) {N N′ Md Md′ : ℕ} → N ≤ N′ → Md ≤ 
 combined-more NR MR {N} {N′} {Md} {Md′} leN leM = omega (arith, utilisation-more NR leN, utilisation-more MR leM)
 
 -- check 11, kind 5
-pub tension-bending-more : (NR MR : ℕ) {N N′ M M′ : ℕ} → N ≤ N′ → M ≤ M′ → tensionBending N M NR MR ≤ tensionBending N′ M′ NR MR
+pub tension-bending-more : (NR MR : ℕ) {N N′ M M′ : ℕ} → N ≤ N′ → M ≤ M′ → tensionBendingUtilisation N M NR MR ≤ tensionBendingUtilisation N′ M′ NR MR
 tension-bending-more = combined-more
 
 -- check 11, kind 4
-pub compression-bending-more : (NR C MR : ℕ) {N N′ M M′ : ℕ} → N ≤ N′ → M ≤ M′ → compressionBending N M NR C MR ≤ compressionBending N′ M′ NR C MR
+pub compression-bending-more : (NR C MR : ℕ) {N N′ M M′ : ℕ} → N ≤ N′ → M ≤ M′ → compressionBendingUtilisation N M NR C MR ≤ compressionBendingUtilisation N′ M′ NR C MR
 compression-bending-more NR C MR {N} {N′} {M} {M′} leN leM = by (leb 1000000 (axialShare N C)) refl (leb 1000000 (axialShare N′ C)) refl
   where
     share : axialShare N C ≤ axialShare N′ C
     share = up-more C (omega arith)
 
     by : (s : Bool) → leb 1000000 (axialShare N C) ≡ s → (t : Bool) → leb 1000000 (axialShare N′ C) ≡ t
-        → compressionBending N M NR C MR ≤ compressionBending N′ M′ NR C MR
+        → compressionBendingUtilisation N M NR C MR ≤ compressionBendingUtilisation N′ M′ NR C MR
     by true e true e′ = rw (e, e′) (omega arith)
     by true e false e′ = absurd (omega (arith, leb-true 1000000 (axialShare N C) e, leb-false 1000000 (axialShare N′ C) e′, share))
     by false e true e′ = rw (e, e′) (omega arith)

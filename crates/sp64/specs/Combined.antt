@@ -32,8 +32,8 @@ abbrev pub ExactCombined : Fraction → Fraction → Fraction → Fraction → T
 ExactCombined N NR Md MR = N ⊘ NR ⊕ Md ⊘ MR ≼ whole 1
 
 -- check 11, kind 4: 9,999,999 where p ≥ 1,000,000
-abbrev pub compressionBending : ℕ → ℕ → ℕ → ℕ → ℕ → ℕ
-compressionBending N M NR C MR =
+abbrev pub compressionBendingUtilisation : ℕ → ℕ → ℕ → ℕ → ℕ → ℕ
+compressionBendingUtilisation N M NR C MR =
     cond (leb 1000000 (axialShare N C)) 9999999 (combined N NR (secondOrderMoment M (axialShare N C)) MR)
 
 -- check 11, kind 4, unrounded: the exact p stays below one, and the ratios' sum holds with the exact Md
@@ -42,8 +42,8 @@ pub record ExactCompressionBending (N M NR C MR : Fraction) : Type 0 where
   pub sum : ExactCombined N NR (exactSecondOrderMoment M (exactAxialShare N C)) MR
 
 -- check 11, kind 5: Md = M, and NR has the tension strength
-abbrev pub tensionBending : ℕ → ℕ → ℕ → ℕ → ℕ
-tensionBending N M NR MR = combined N NR M MR
+abbrev pub tensionBendingUtilisation : ℕ → ℕ → ℕ → ℕ → ℕ
+tensionBendingUtilisation N M NR MR = combined N NR M MR
 
 -- check 11, kind 5, unrounded
 abbrev pub ExactTensionBending : Fraction → Fraction → Fraction → Fraction → Type 0

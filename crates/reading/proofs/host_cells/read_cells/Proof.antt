@@ -12,7 +12,7 @@ use Rattle.cells.specs.declared.row.Cell.the-variants.{Blank}
 use Rattle.cells.specs.declared.row.Row.{Row}
 use Rattle.cells.proofs.FillLaws.{fill-step, fill-end}
 use Rattle.cells.proofs.LowestLaws.{lowest-end}
-use Rattle.reading.proofs.LoopLaws.{says-refused, says-row, unreadable, wanted, search-on, wanted-length, wanted-at}
+use Rattle.reading.proofs.LoopLaws.{says-refused, says-row, unreadable, slotsRead, search-on, slots-read-length, slots-read-at}
 use Rattle.worksheet.proofs.ReadingLaws.{asRead, read-given, read-refused}
 use Rattle.reading.proofs.host_cells.read_cells.Statement.{statement}
 use Rattle.reading.proofs.host_cells.read_cells.Tie as tie
@@ -21,7 +21,7 @@ abbrev Inv-loop : tie.InvT-loop
 Inv-loop cells row₀ i₀ row i =
     (i ≤ cellCount)
     × (length (row .cells) ≡ cellCount)
-    × (take i (row .cells) ≡ take i (wanted cells))
+    × (take i (row .cells) ≡ take i (slotsRead cells))
     × (lowestUnreadable cells ≡ lowest unreadable (i + 1) (drop i cells))
 
 abbrev μ-loop : tie.MeasureT-loop
@@ -90,8 +90,8 @@ loop-again c =
     let told = sym (c .before .reading .given .1) ∙ r .read-cell .ensures in (
       omega arith,
       length-set slots i _ ∙ l .loop .inv .1,
-      fill-step slots (wanted cells) i _ (record { cell = Blank }) (omega arith) (omega (arith, wanted-length cells)) (l .loop .inv .2)
-          (wanted-at cells i _ told),
+      fill-step slots (slotsRead cells) i _ (record { cell = Blank }) (omega arith) (omega (arith, slots-read-length cells)) (l .loop .inv .2)
+          (slots-read-at cells i _ told),
       l .loop .inv .3 ∙ search-on cells i _ inside told,
     )
 
@@ -100,8 +100,8 @@ returns-2 c =
     let l = c .before in
     let cells = l .before .before .args .t1 in
     let n : length cells ≡ cellCount = l .before .before .good .0 .1 .0 .1 in
-    let same : l .loop .row .cells ≡ wanted cells =
-    fill-end (l .loop .row .cells) (wanted cells) (l .loop .i) (omega arith) (omega (arith, wanted-length cells)) (l .loop .inv .2) in
+    let same : l .loop .row .cells ≡ slotsRead cells =
+    fill-end (l .loop .row .cells) (slotsRead cells) (l .loop .i) (omega arith) (omega (arith, slots-read-length cells)) (l .loop .inv .2) in
     rw same
     (says-row (asRead cells) _ (read-given cells (l .loop .inv .3 ∙ lowest-end unreadable cells (l .loop .i) (l .loop .i + 1) (omega arith))))
 

@@ -20,7 +20,7 @@ use Rattle.cells.specs.declared.row.Row.{Row}
 use Rattle.cells.proofs.FillLaws.{fill-step, fill-end}
 use Rattle.worksheet.proofs.HostRowLaws.{host-cells-length, host-cells-at}
 use Rattle.cells.proofs.LowestLaws.{lowest-end}
-use Rattle.reading.proofs.LoopLaws.{says-refused, says-row, unreadable, wanted, search-on, wanted-length, wanted-at}
+use Rattle.reading.proofs.LoopLaws.{says-refused, says-row, unreadable, slotsRead, search-on, slots-read-length, slots-read-at}
 use Rattle.worksheet.proofs.ReadingLaws.{asRead, read-given, read-refused}
 use Rattle.worksheet.proofs.ReadingMeaning.{another-length}
 use Rattle.reading.proofs.host_row.read_host_row.Statement.{statement}
@@ -44,7 +44,7 @@ abbrev Inv-loop : tie.InvT-loop
 Inv-loop bytes row₀ i₀ row i =
     (i ≤ cellCount)
     × (length (row .cells) ≡ cellCount)
-    × (take i (row .cells) ≡ take i (wanted (hostCells bytes)))
+    × (take i (row .cells) ≡ take i (slotsRead (hostCells bytes)))
     × (lowestUnreadable (hostCells bytes) ≡ lowest unreadable (i + 1) (drop i (hostCells bytes)))
 
 abbrev μ-loop : tie.MeasureT-loop
@@ -127,8 +127,8 @@ loop-again c =
     reads-there bytes i _ _ (r .before .before .loop-test .taken) (r .before .host-cell-at .ensures) (sym (c .before .reading .given .1) ∙ r .read-cell .ensures) in (
       omega arith,
       length-set slots i _ ∙ l .loop .inv .1,
-      fill-step slots (wanted cells) i _ (record { cell = Blank }) (omega arith) (omega (arith, wanted-length cells)) (l .loop .inv .2)
-          (wanted-at cells i _ told),
+      fill-step slots (slotsRead cells) i _ (record { cell = Blank }) (omega arith) (omega (arith, slots-read-length cells)) (l .loop .inv .2)
+          (slots-read-at cells i _ told),
       l .loop .inv .3 ∙ search-on cells i _ inside told,
     )
 
@@ -139,8 +139,8 @@ returns-3 c =
     let bytes = tested .before .before .args .bytes .now in
     let cells = hostCells bytes in
     let n : length cells ≡ cellCount = host-cells-length cellCount bytes 0 in
-    let same : l .loop .row .cells ≡ wanted cells =
-    fill-end (l .loop .row .cells) (wanted cells) (l .loop .i) (omega arith) (omega (arith, wanted-length cells)) (l .loop .inv .2) in
+    let same : l .loop .row .cells ≡ slotsRead cells =
+    fill-end (l .loop .row .cells) (slotsRead cells) (l .loop .i) (omega arith) (omega (arith, slots-read-length cells)) (l .loop .inv .2) in
     rw same
     (says-row (asRead cells) _
     (read-whole bytes (tested .if1 .left)

@@ -9,7 +9,7 @@ use Rattle.member.specs.Verdict.{governing}
 use Rattle.member.specs.declared.kind.Kind.{Kind}
 use Rattle.member.specs.declared.member.Member.{Member}
 use Rattle.member.proofs.Reliance.{struts-in}
-use Rattle.rowcheck.proofs.JudgeLaws.{only, governs, bending-found, buckling-found, compression-bending-found, tension-bending-found, strut-in}
+use Rattle.rowcheck.proofs.JudgeLaws.{only, next-governs, bending-found, buckling-found, compression-bending-found, tension-bending-found, strut-in}
 use borrow.Author.Needs.{needs}
 use Rattle.rowcheck.proofs.judge.governing_check.Statement.{statement}
 use Rattle.rowcheck.proofs.judge.governing_check.Tie as tie
@@ -52,23 +52,17 @@ enum-told-3 c = search needs
 compression-resistance-requires : tie.Need-compression-resistance-requires
 compression-resistance-requires c κs = search needs
 
-strut-requires : tie.Need-strut-requires
-strut-requires c κs = search needs
-
 buckling-check-requires : tie.Need-buckling-check-requires
 buckling-check-requires c κs =
-    let start = c .before .before in
-    let known = ranges _ (start .enum-told3 .given .1) (start .before .before .before .pre .0) in
-    (c .before .compression-resistance .ensures .range, strut-in (c .strut .ensures) (struts-in _ known refl acrossHeight))
-
-strut-requires-2 : tie.Need-strut-requires-2
-strut-requires-2 c κs = search needs
+    let start = c .before in
+    let pre = start .before .before .before .pre in
+    (c .compression-resistance .ensures .range, strut-in (pre .2) (struts-in _ (ranges _ (start .enum-told3 .given .1) (pre .0)) refl acrossHeight))
 
 buckling-check-requires-2 : tie.Need-buckling-check-requires-2
 buckling-check-requires-2 c κs =
-    let start = c .before .before .before .before in
-    let known = ranges _ (start .enum-told3 .given .1) (start .before .before .before .pre .0) in
-    (c .before .before .before .compression-resistance .ensures .range, strut-in (c .strut2 .ensures) (struts-in _ known refl acrossWidth))
+    let start = c .before .before in
+    let pre = start .before .before .before .pre in
+    (c .before .compression-resistance .ensures .range, strut-in (pre .3) (struts-in _ (ranges _ (start .enum-told3 .given .1) (pre .0)) refl acrossWidth))
 
 greater-requires-2 : tie.Need-greater-requires-2
 greater-requires-2 c κs = search needs
@@ -82,34 +76,29 @@ compression-resistance-requires-2 c κs = search needs
 moment-resistance-requires-2 : tie.Need-moment-resistance-requires-2
 moment-resistance-requires-2 c κs = search needs
 
-strut-requires-3 : tie.Need-strut-requires-3
-strut-requires-3 c κs = search needs
-
 buckling-check-requires-3 : tie.Need-buckling-check-requires-3
 buckling-check-requires-3 c κs =
-    let start = c .before .before .before in
-    let known = ranges _ (start .enum-told4 .given .1) (start .before .before .before .pre .0) in
-    (c .before .before .compression-resistance2 .ensures .range, strut-in (c .strut3 .ensures) (struts-in _ known refl acrossHeight))
-
-strut-requires-4 : tie.Need-strut-requires-4
-strut-requires-4 c κs = search needs
+    let start = c .before .before in
+    let pre = start .before .before .before .pre in
+    (c .before .compression-resistance2 .ensures .range, strut-in (pre .2) (struts-in _ (ranges _ (start .enum-told4 .given .1) (pre .0)) refl acrossHeight))
 
 buckling-check-requires-4 : tie.Need-buckling-check-requires-4
 buckling-check-requires-4 c κs =
-    let start = c .before .before .before .before .before in
-    let known = ranges _ (start .enum-told4 .given .1) (start .before .before .before .pre .0) in
-    (c .before .before .before .before .compression-resistance2 .ensures .range, strut-in (c .strut4 .ensures) (struts-in _ known refl acrossWidth))
+    let start = c .before .before .before in
+    let pre = start .before .before .before .pre in
+    (c .before .before .compression-resistance2 .ensures .range, strut-in (pre .3) (struts-in _ (ranges _ (start .enum-told4 .given .1) (pre .0)) refl acrossWidth))
 
 compression-bending-check-requires : tie.Need-compression-bending-check-requires
 compression-bending-check-requires c κs =
-    let height = c .before .before .before in
-    let start = height .before .before .before in
-    let known = ranges _ (start .enum-told4 .given .1) (start .before .before .before .pre .0) in (
+    let mr = c .before .before in
+    let start = mr .before .before in
+    let pre = start .before .before .before .pre in
+    let known = ranges _ (start .enum-told4 .given .1) (pre .0) in (
       known .force refl,
       known .moment refl,
-      height .before .before .compression-resistance2 .ensures .range,
-      height .before .moment-resistance2 .ensures .range,
-      strut-in (height .strut3 .ensures) (struts-in _ known refl acrossHeight),
+      mr .before .compression-resistance2 .ensures .range,
+      mr .moment-resistance2 .ensures .range,
+      strut-in (pre .2) (struts-in _ known refl acrossHeight),
     )
 
 greater-requires-3 : tie.Need-greater-requires-3
@@ -120,7 +109,7 @@ greater-requires-4 c κs = search needs
 
 shear-check-requires-2 : tie.Need-shear-check-requires-2
 shear-check-requires-2 c κs =
-    let sized = c .before .before .before .before .before .before .before .before .before .before .before .before .pre .0 .sized in
+    let sized = c .before .before .before .before .before .before .before .before .before .before .pre .0 .sized in
     (sized .section, sized .material)
 
 greater-requires-5 : tie.Need-greater-requires-5
@@ -135,11 +124,8 @@ tension-resistance-requires-2 c κs = search needs
 moment-resistance-requires-3 : tie.Need-moment-resistance-requires-3
 moment-resistance-requires-3 c κs = search needs
 
-tension-bending-requires : tie.Need-tension-bending-requires
-tension-bending-requires c κs = search needs
-
-used-at-requires : tie.Need-used-at-requires
-used-at-requires c κs = search needs
+tension-bending-check-requires : tie.Need-tension-bending-check-requires
+tension-bending-check-requires c κs = search needs
 
 shear-check-requires-3 : tie.Need-shear-check-requires-3
 shear-check-requires-3 c κs = search needs
@@ -157,36 +143,35 @@ returns-2 : tie.Need-returns-2
 returns-2 c =
     let moment = c .before .before in
     let start = moment .before .before in
-    governs _ _ refl (bending-found (start .before .before .before .args .m) (moment .before .moment-resistance .ensures .exact) (moment .against2 .ensures)) _
+    next-governs _ _ refl (bending-found (start .before .before .before .args .m) (moment .before .moment-resistance .ensures .exact) (moment .against2 .ensures)) _
     (only _ _ refl (c .before .shear-check .ensures))
     (c .greater .ensures)
     ∙ agrees _ (start .enum-told2 .given .1)
 
 returns-3 : tie.Need-returns-3
 returns-3 c =
-    let width = c .before .before in
-    let height = width .before .before in
-    let nr = height .before .compression-resistance .ensures .exact in
-    let start = height .before .before in
-    let m = start .before .before .before .args .m in
-    governs _ _ refl (buckling-found m acrossHeight nr (height .strut .ensures) (width .before .buckling-check .ensures)) _
-    (only _ _ refl (buckling-found m acrossWidth nr (width .strut2 .ensures) (c .before .buckling-check2 .ensures)))
+    let nr = c .before .before .before in
+    let start = nr .before in
+    let known = start .before .before .before in
+    let m = known .args .m in
+    next-governs _ _ refl (buckling-found m acrossHeight (nr .compression-resistance .ensures .exact) (known .pre .2) (c .before .before .buckling-check .ensures)) _
+    (only _ _ refl (buckling-found m acrossWidth (nr .compression-resistance .ensures .exact) (known .pre .3) (c .before .buckling-check2 .ensures)))
     (c .greater2 .ensures)
     ∙ agrees _ (start .enum-told3 .given .1)
 
 returns-4 : tie.Need-returns-4
 returns-4 c =
     let combined = c .before .before .before .before in
-    let width = combined .before in
-    let height = width .before .before .before in
-    let mr = height .before .moment-resistance2 .ensures .exact in
-    let nr = height .before .before .compression-resistance2 .ensures .exact in
-    let start = height .before .before .before in
-    let m = start .before .before .before .args .m in
-    governs _ _ refl (c .before .shear-check2 .ensures) _
-    (governs _ _ refl (buckling-found m acrossHeight nr (height .strut3 .ensures) (width .before .before .buckling-check3 .ensures)) _
-    (governs _ _ refl (buckling-found m acrossWidth nr (width .before .strut4 .ensures) (width .buckling-check4 .ensures)) _
-    (only _ _ refl (compression-bending-found m nr mr (height .strut3 .ensures) (combined .compression-bending-check .ensures)))
+    let mr = combined .before .before .before in
+    let nr = mr .before in
+    let start = nr .before in
+    let known = start .before .before .before in
+    let m = known .args .m in
+    next-governs _ _ refl (c .before .shear-check2 .ensures) _
+    (next-governs _ _ refl (buckling-found m acrossHeight (nr .compression-resistance2 .ensures .exact) (known .pre .2) (combined .before .before .buckling-check3 .ensures)) _
+    (next-governs _ _ refl (buckling-found m acrossWidth (nr .compression-resistance2 .ensures .exact) (known .pre .3) (combined .before .buckling-check4 .ensures)) _
+    (only _ _ refl
+    (compression-bending-found m (nr .compression-resistance2 .ensures .exact) (mr .moment-resistance2 .ensures .exact) (known .pre .2) (combined .compression-bending-check .ensures)))
     (c .before .before .before .greater3 .ensures))
     (c .before .before .greater4 .ensures))
     (c .greater5 .ensures)
@@ -195,11 +180,11 @@ returns-4 c =
 returns-5 : tie.Need-returns-5
 returns-5 c =
     let combined = c .before .before in
-    let mr = combined .before .before in
+    let mr = combined .before in
     let start = mr .before .before in
-    governs _ _ refl (c .before .shear-check3 .ensures) _
+    next-governs _ _ refl (c .before .shear-check3 .ensures) _
     (only _ _ refl
-    (tension-bending-found (start .before .before .before .args .m) (mr .before .tension-resistance2 .ensures .exact) (mr .moment-resistance3 .ensures .exact) (combined .before .tension-bending .ensures .exact) (combined .used-at .ensures)))
+    (tension-bending-found (start .before .before .before .args .m) (mr .before .tension-resistance2 .ensures .exact) (mr .moment-resistance3 .ensures .exact) (combined .tension-bending-check .ensures)))
     (c .greater6 .ensures)
     ∙ agrees _ (start .enum-told5 .given .1)
 
@@ -217,17 +202,13 @@ governing-check-spec =
     greater-requires
     enum-told-3
     compression-resistance-requires
-    strut-requires
     buckling-check-requires
-    strut-requires-2
     buckling-check-requires-2
     greater-requires-2
     enum-told-4
     compression-resistance-requires-2
     moment-resistance-requires-2
-    strut-requires-3
     buckling-check-requires-3
-    strut-requires-4
     buckling-check-requires-4
     compression-bending-check-requires
     greater-requires-3
@@ -237,8 +218,7 @@ governing-check-spec =
     enum-told-5
     tension-resistance-requires-2
     moment-resistance-requires-3
-    tension-bending-requires
-    used-at-requires
+    tension-bending-check-requires
     shear-check-requires-3
     greater-requires-6
     returns

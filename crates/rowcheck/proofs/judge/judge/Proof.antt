@@ -7,6 +7,12 @@ use borrow.Author.Needs.{needs}
 use Rattle.rowcheck.proofs.judge.judge.Statement.{statement}
 use Rattle.rowcheck.proofs.judge.judge.Tie as tie
 
+strut-requires : tie.Need-strut-requires
+strut-requires c κs = search needs
+
+strut-requires-2 : tie.Need-strut-requires-2
+strut-requires-2 c κs = search needs
+
 first-failed-requires : tie.Need-first-failed-requires
 first-failed-requires c κs = search needs
 
@@ -19,7 +25,7 @@ returns c = c .failed-on .ensures ∙ first-gives _ (c .before .before .first-fa
 judge-joint-requires : tie.Need-judge-joint-requires
 judge-joint-requires c κs =
     let first = c .before .before in
-    let known = first .before .pre in
+    let known = first .before .before .before .pre in
     let jointed = c .if2 .taken in
     let tension = known .tension jointed in (
       known .sized,
@@ -38,7 +44,7 @@ by-strength-requires c κs = search needs
 returns-2 : tie.Need-returns-2
 returns-2 c =
     let first = c .before .before .before in
-    let tension = first .before .pre .tension (c .before .if2 .taken) in
+    let tension = first .before .before .before .pre .tension (c .before .if2 .taken) in
     c .judge-joint .ensures ∙ joint-left _ (first .first-failed .ensures) (c .before .before .if1 .left) tension
 
 returns-3 : tie.Need-returns-3
@@ -52,6 +58,8 @@ pub judge-spec : {M : Type 1} → statement M
 judge-spec =
     tie.close
     (tie.spec
+    strut-requires
+    strut-requires-2
     first-failed-requires
     failed-on-requires
     returns

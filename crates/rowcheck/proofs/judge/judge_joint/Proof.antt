@@ -5,7 +5,7 @@ use mathlib.Core.Bool.{not}
 use Rattle.member.specs.Checks.{jointLength}
 use Rattle.member.specs.Member.{countOf}
 use Rattle.member.specs.Verdict.{holds, byStrength, failedOn}
-use Rattle.rowcheck.proofs.JudgeLaws.{has, length-fails, length-holds, only, governs}
+use Rattle.rowcheck.proofs.JudgeLaws.{has, length-fails, length-holds, only, next-governs}
 use borrow.Author.Needs.{needs}
 use Rattle.rowcheck.proofs.judge.judge_joint.Statement.{statement}
 use Rattle.rowcheck.proofs.judge.judge_joint.Tie as tie
@@ -69,7 +69,7 @@ returns-2 c =
     length-holds _ _ (has (ap not jointed) (measured (all .before))) (all .if1 .left)
     (c .by-strength .ensures
     ∙ ap₂ byStrength
-    (governs _ _ {x = net .against .result} refl
+    (next-governs _ _ {x = net .against .result} refl
     (rw (jointed, ← (net .before .before .design-strength .ensures .exact), ← (net .before .net-tension-capacity .ensures .exact)) (net .against .ensures)) _
     (only _ _ {x = c .before .before .against2 .result} (ap not jointed)
     (rw (← (net .before .before .design-strength .ensures .exact), ← (c .before .before .before .side-piece-capacity .ensures .exact)) (c .before .before .against2 .ensures)))
