@@ -1,6 +1,6 @@
 //! A row as the host has it, and its bytes.
 
-/// How many cells a row has. Every other size follows from it.
+/// How many cells a row has. The sizes of its bytes follow from it.
 pub const CELLS: usize = 22;
 
 /// The bytes of the host's row: for each cell one that says whether it is filled and eight of the float.
@@ -9,9 +9,11 @@ pub const ROW_BYTES: usize = 9 * CELLS;
 /// The bytes of an answer: three floats.
 pub const ANSWER_BYTES: usize = 24;
 
-/// The most bytes that a packed row takes: for each cell a bit that says whether it is filled and the 34 bits of its
-/// value, and what fills the last byte.
-pub const PACKED_BYTES: usize = ((1 + 34) * CELLS).div_ceil(8);
+/// The bits of a packed cell that is filled: one that says so, and its value's.
+pub const PACKED_CELL_BITS: usize = 1 + 34;
+
+/// The most bytes that a packed row takes: every cell filled, and zero bits to fill the last byte.
+pub const PACKED_BYTES: usize = (PACKED_CELL_BITS * CELLS).div_ceil(8);
 
 /// The cells of a row, cell 1 first: blank or a float.
 pub type HostRow = [Option<f64>; CELLS];

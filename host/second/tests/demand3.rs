@@ -133,15 +133,19 @@ fn tie() -> Cells {
 
 #[test]
 fn worked_rows_are_accepted() {
-    hold([
-        kept("A", a(), pass(7, 690_668, 0)),
-        kept("B", b(), pass(10, 315_122, 0)),
-        kept("C", with(b(), LENGTH_B, 2020), pass(10, 319_121, 0)),
-        kept("D", with(b(), LENGTH_B, 2021), pass(10, 317_143, 0)),
-        kept("E", e(), pass(5, 342_176, 25)),
-        kept("F", f(), fail(4, 0, 25)),
-        kept("G", g(), fail(1, 0, 0)),
-    ]);
+    let rows = [
+        ("A", a(), pass(7, 690_668, 0)),
+        ("B", b(), pass(10, 315_122, 0)),
+        ("C", with(b(), LENGTH_B, 2020), pass(10, 319_120, 0)),
+        ("D", with(b(), LENGTH_B, 2021), pass(10, 317_141, 0)),
+        ("E", e(), pass(5, 342_176, 25)),
+        ("F", f(), fail(4, 0, 25)),
+        ("G", g(), fail(1, 0, 0)),
+    ];
+    for (name, cells, verdict) in &rows {
+        assert_eq!(checked(cells), *verdict, "row {name}");
+    }
+    hold(rows.map(|(name, cells, verdict)| kept(name, cells, verdict)));
 }
 
 #[test]

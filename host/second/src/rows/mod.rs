@@ -9,7 +9,9 @@ pub mod refused;
 pub mod worked;
 
 use crate::{Cells, Paper, Rules};
-use lvl_addin::row::{host_bytes, HostRow, ANSWER_BYTES, CELLS, PACKED_BYTES, ROW_BYTES};
+use lvl_addin::row::{
+    host_bytes, HostRow, ANSWER_BYTES, CELLS, PACKED_BYTES, PACKED_CELL_BITS, ROW_BYTES,
+};
 use random::Random;
 
 /// The longest row, answer and buffer that a case has. Each goes beyond the right length, so that what is too long is
@@ -17,7 +19,7 @@ use random::Random;
 /// buffer as long as if every packed cell took whole bytes.
 pub const LONGEST_ROW: usize = ROW_BYTES + CELLS;
 pub const LONGEST_ANSWER: usize = 2 * ANSWER_BYTES;
-pub const LONGEST_SPACE: usize = PACKED_BYTES.next_multiple_of(CELLS);
+pub const LONGEST_SPACE: usize = PACKED_CELL_BITS.div_ceil(8) * CELLS;
 
 /// One call of each entry.
 #[derive(Clone)]
