@@ -1,10 +1,12 @@
--- Which checks a kind has, by number; that a row has both struts, where a careless hand would leave one out; and which cells each strut is of.
+-- Which checks a kind has, by number; that a row has both struts, where a careless hand would leave one out; which cells each strut is of, and where check 3 is left out.
 -- Assumes nothing.
 use Prim.Native.Nat.{ℕ, _*_, _≤_}
 use mathlib.Core.List.{List, [], _∷_, _++_, map}
 use mathlib.Core.Logic.{_⊎_, inl, inr, _↔_}
 use mathlib.Core.Path.{_≡_, refl}
-use Rattle.member.specs.Checks.{YesNoCheck, StrengthCheck, Has, yesNo, strength, checkNumber, yesNoChecks, strengthChecks, slenderness, buckling}
+use mathlib.Core.Bool.{true}
+use borrow.Author.Tests.{eqb-true, eq-eqb}
+use Rattle.member.specs.Checks.{YesNoCheck, StrengthCheck, Has, yesNo, strength, checkNumber, yesNoChecks, strengthChecks, omitted, slenderness, buckling}
 use Rattle.member.specs.Member.{acrossHeight, acrossWidth, limitOf}
 use Rattle.member.specs.Unrounded.{Forces, Holds}
 use Rattle.member.specs.declared.kind.Kind.{Kind}
@@ -33,3 +35,7 @@ pub struts-by-cells : (m : Member) (f : Forces)
     → (Holds m f (yesNo (slenderness acrossHeight)) ↔ (12 * (m .lh * m .lh) ≤ limitOf m * limitOf m * (m .height * m .height)))
     × (Holds m f (yesNo (slenderness acrossWidth)) ↔ (12 * (m .lb * m .lb) ≤ limitOf m * limitOf m * (m .width * m .width)))
 struts-by-cells m f = ((λ h. h, λ h. h), (λ h. h, λ h. h))
+
+-- check 3 is left out in row 4 of Table 16 and in no other
+pub row-4-alone : (m : Member) → omitted m (yesNo (slenderness acrossWidth)) ≡ true ↔ m .table16 ≡ 4
+row-4-alone m = (eqb-true (m .table16) 4, eq-eqb (m .table16) 4)
