@@ -37,9 +37,13 @@ fn help_names_every_cell_and_exit_code() {
         "--csv",
         "Exit code: 0 every row passes; 1 ",
         "earlier --csv",
+        "in columns after cell 22,",
+        "the 22 cells in this order",
+        "in a column past cell 22 is refused",
     ] {
         assert!(run.out.contains(part), "{part}");
     }
+    assert!(!run.out.contains(['{', '}']), "{}", run.out);
 }
 
 #[test]

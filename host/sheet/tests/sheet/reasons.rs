@@ -32,6 +32,7 @@ fn what_is_wrong_with_a_cell() {
         (with(9, "1"), "cell 9 moment M: filled, but not for kind 1"),
         (with(8, ""), "cell 8 axial force N: blank, but kind 1 needs it"),
         (with(13, "3"), "cell 13 Table 16 row: 3 is not a row for this kind"),
+        (with(14, ""), "cell 14 side piece a: blank, but a joint is begun"),
         (with(22, ""), "cell 22 km: blank, but a joint is begun"),
         (with(22, "99"), "cell 22 km: 99 is outside 100 to 5000 hundredths of N/mm²"),
     ];
