@@ -30,7 +30,7 @@ use Rattle.member.specs.Ranges.{Sized}
 use Rattle.member.specs.Unrounded.{Forces, forcesOf, times, Holds}
 use Rattle.member.specs.declared.member.Member.{Member}
 use Rattle.member.proofs.AcceptanceLaws.{accept-ranges}
-use Rattle.member.proofs.Reliance.{LaidOut, ReliesOn, ExactHold, joint-known, relied-on}
+use Rattle.member.proofs.Reliance.{JointLaidOut, ReliesOn, LayoutAndSlendernessHold, joint-known, relied-on}
 
 -- N, M and Q are values
 pub record Real (f : Forces) : Type 0 where
@@ -114,7 +114,7 @@ combined-proper {N} {NR} {Md} {MR} n d =
 
 module _ (m : Member) (f : Forces) (real : Real f) (here : Sized m) where
   -- check 5 with and without a joint
-  net-tension : (m .jointed ≡ true → LaidOut m) → ProperAt m f netTension
+  net-tension : (m .jointed ≡ true → JointLaidOut m) → ProperAt m f netTension
   net-tension laid = (
     record { force-real = real .N; capacity-proper = by (m .jointed) refl },
     λ e. net-height-kept (here .section .height) (laid e .joint) (laid e .layout),
@@ -196,7 +196,7 @@ module _ (cells : List Cell) (m : Member) (whole : length cells ≡ cellCount) (
     pub nothing-empty-at : (f : Forces) → Real f → (c : StrengthCheck) → Has m (strength c) → ProperAt m f c
     nothing-empty-at f real c has =
         let ranges = accept-ranges cells m whole given in
-        let holds : ExactHold m (m .kind) = λ d low a kept. hold (yesNo d) low (record { of-kind = a; kept = kept }) in
+        let holds : LayoutAndSlendernessHold m (m .kind) = λ d low a kept. hold (yesNo d) low (record { of-kind = a; kept = kept }) in
         proper-strength m f real (ranges .sized) c (relied-on m (m .kind) ranges holds c (has .of-kind) (has .kept))
 
     -- nor at the forces of the cells

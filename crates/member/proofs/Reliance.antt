@@ -1,4 +1,4 @@
--- What each check of an accepted row relies on: the ranges of what it takes, and layout or slenderness where it needs them.
+-- What each strength check of an accepted row relies on: the ranges of what it takes, and layout or slenderness where it needs them.
 -- Assumes nothing.
 use Prim.Native.Nat.{_≤_}
 use native.Mathlib.Omega.{arith}
@@ -25,21 +25,21 @@ use Rattle.member.specs.declared.member.Member.{Member}
 use Rattle.member.proofs.VerdictLaws.{clash}
 use Rattle.member.proofs.DemandLaws.{slenderness-low}
 
--- the joint and the force on it, cells 8 and 14 to 22
+-- what check 4 and the count take: cells 2 to 8 and 14 to 22
 pub record JointKnown (m : Member) : Type 0 where
   pub sized : Sized m
   pub joint : JointRanges (m .joint)
   pub force : InForce (m .force)
 
 -- a joint whose layout holds
-pub record LaidOut (m : Member) : Type 0 where
+pub record JointLaidOut (m : Member) : Type 0 where
   pub joint : JointRanges (m .joint)
   pub layout : Layout (m .height) (m .joint)
 
 -- what strength check c relies on, beside the grade and the section
 abbrev pub ReliesOn : Member → StrengthCheck → Type 0
-ReliesOn m netTension = m .jointed ≡ true → LaidOut m
-ReliesOn m sidePieces = LaidOut m
+ReliesOn m netTension = m .jointed ≡ true → JointLaidOut m
+ReliesOn m sidePieces = JointLaidOut m
 ReliesOn m bending = Unit
 ReliesOn m shear = Unit
 ReliesOn m (buckling across) = Steady (limitOf m) (strutOf m across)
@@ -48,11 +48,11 @@ ReliesOn m tensionBending = Unit
 
 module _ (m : Member) where
   -- layout and slenderness hold in a row of the kind
-  abbrev pub ExactHold : Kind → Type 0
-  ExactHold kind = (c : YesNoCheck) → LayoutOrSlenderness (yesNo c) → Among c (yesNoChecks kind) → omitted m (yesNo c) ≡ false → Holds m (forcesOf m) (yesNo c)
+  abbrev pub LayoutAndSlendernessHold : Kind → Type 0
+  LayoutAndSlendernessHold kind = (c : YesNoCheck) → LayoutOrSlenderness (yesNo c) → Among c (yesNoChecks kind) → omitted m (yesNo c) ≡ false → Holds m (forcesOf m) (yesNo c)
 
   module _ {kind : Kind} (ranges : RangesOf kind m) where
-    -- a row with a joint is of kind 1
+    -- a row with a joint, which is of kind 1, has them in their ranges
     pub joint-known : m .jointed ≡ true → JointKnown m
     joint-known e = record { sized = ranges .sized; joint = ranges .joint e; force = ranges .force (rw (ranges .tension e) refl) }
 
@@ -65,7 +65,7 @@ module _ (m : Member) where
         by false e = refl
 
     -- the layout of a joint holds
-    laid-out : Among layout (yesNoChecks kind) → ExactHold kind → m .jointed ≡ true → LaidOut m
+    laid-out : Among layout (yesNoChecks kind) → LayoutAndSlendernessHold kind → m .jointed ≡ true → JointLaidOut m
     laid-out a hold e = record { joint = ranges .joint e; layout = hold layout (lit≤ tt) a (rw e refl) }
 
     -- the ranges of both struts
@@ -74,7 +74,7 @@ module _ (m : Member) where
     struts-in has acrossWidth = record { L = ranges .braced has .lb; s = in-wide 20 2500 (lit≤ tt) (lit≤ tt) (ranges .sized .section .width) }
 
     -- slenderness holds across the height or the width, where the row has that check
-    steady : (across : Across) → required kind 11 ≡ true → Among (slenderness across) (yesNoChecks kind) → omitted m (yesNo (slenderness across)) ≡ false → ExactHold kind → Steady (limitOf m) (strutOf m across)
+    steady : (across : Across) → required kind 11 ≡ true → Among (slenderness across) (yesNoChecks kind) → omitted m (yesNo (slenderness across)) ≡ false → LayoutAndSlendernessHold kind → Steady (limitOf m) (strutOf m across)
     steady across has a kept hold =
         record { ranges = struts-in has across; most = ranges .braced has .limit; slender = hold (slenderness across) (slenderness-low across) a kept }
 
@@ -83,7 +83,7 @@ module _ (m : Member) where
   not-row-4 low = ne-eqb (m .table16) 4 (λ e. omega arith)
 
   -- each strength check of an accepted row has what it relies on
-  pub relied-on : (kind : Kind) → RangesOf kind m → ExactHold kind → (c : StrengthCheck) → Among c (strengthChecks kind) → omitted m (strength c) ≡ false → ReliesOn m c
+  pub relied-on : (kind : Kind) → RangesOf kind m → LayoutAndSlendernessHold kind → (c : StrengthCheck) → Among c (strengthChecks kind) → omitted m (strength c) ≡ false → ReliesOn m c
   relied-on Tension ranges hold c (inl e) kept = rw e (laid-out ranges (inl refl) hold)
   relied-on Tension ranges hold c (inr (inl e)) kept = rw e (laid-out ranges (inl refl) hold (not-false _ (rw e at kept)))
   relied-on Tension ranges hold c (inr (inr a)) kept = absurd a

@@ -17,7 +17,7 @@ use Rattle.member.specs.declared.kind.Kind.the-variants.{Bending}
 use Rattle.member.specs.declared.member.Member.{Member}
 use Rattle.member.proofs.VerdictLaws.{clash, AllHold}
 use Rattle.member.proofs.DemandLaws.{StrengthSound, ChecksSound, exact}
-use Rattle.member.proofs.Reliance.{LaidOut, ReliesOn, ExactHold, joint-known, unjointed, relied-on}
+use Rattle.member.proofs.Reliance.{JointLaidOut, ReliesOn, LayoutAndSlendernessHold, joint-known, unjointed, relied-on}
 
 -- the factors of the forces, in thousandths, from which on every check is sound
 abbrev pub soundFrom : Check → ℕ
@@ -45,7 +45,7 @@ cells-round m tensionBending = refl
 
 module _ (m : Member) (f : Forces) (here : Sized m) where
   -- check 5 with and without a joint
-  net-tension : RoundsUpTo (m .force) (f .N) → (m .jointed ≡ true → LaidOut m) → StrengthSound m f soundFrom netTension
+  net-tension : RoundsUpTo (m .force) (f .N) → (m .jointed ≡ true → JointLaidOut m) → StrengthSound m f soundFrom netTension
   net-tension up laid = by (m .jointed) refl
     where
       by : (t : Bool) → m .jointed ≡ t → StrengthSound m f soundFrom netTension
@@ -65,7 +65,7 @@ module _ (m : Member) (f : Forces) (here : Sized m) where
 
 module _ (m : Member) where
   -- layout and slenderness round nothing
-  hold-exactly : (kind : Kind) → AllHold m (yesNoChecks kind) → ExactHold m kind
+  hold-exactly : (kind : Kind) → AllHold m (yesNoChecks kind) → LayoutAndSlendernessHold m kind
   hold-exactly kind all c low a kept = exact m (forcesOf m) c low .0 (all c a kept)
 
   -- the strength checks of a row at forces that round up to its cells

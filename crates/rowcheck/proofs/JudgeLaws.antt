@@ -33,14 +33,14 @@ module _ (m : Member) where
   struts = slenderness acrossHeight ∷ slenderness acrossWidth ∷ []
 
   -- the code's test of check 1, and what it finds for checks 2 and 3 with the struts s and t
-  abbrev laidOut : Bool
-  laidOut = omitted m (yesNo layout) || holds m layout
+  abbrev layoutPassed : Bool
+  layoutPassed = omitted m (yesNo layout) || holds m layout
 
   abbrev tooSlender : Strut → Strut → ℕ
   tooSlender s t = cond (slendernessHolds (limitOf m) s) (cond (withoutCheck3 (m .table16) || slendernessHolds (limitOf m) t) 0 3) 2
 
   -- check 1 fails: the row is of kind 1, which has it first
-  pub layout-first : m .kind ≡ Tension → laidOut ≡ false → 1 ≡ firstFailed m (yesNoChecks (m .kind))
+  pub layout-first : m .kind ≡ Tension → layoutPassed ≡ false → 1 ≡ firstFailed m (yesNoChecks (m .kind))
   unfolding firstFailed
   layout-first e fails = rw (e, fails) refl
 
@@ -57,7 +57,7 @@ module _ (m : Member) where
       by TensionBending e = absurd (true≢false e)
 
   -- in the others checks 2 and 3 decide, where check 1 holds or is not one of the row's
-  pub slender-first : {s t : Strut} {n : ℕ} → s ≡ strutOf m acrossHeight → t ≡ strutOf m acrossWidth → n ≡ tooSlender s t → required (m .kind) 11 ≡ true → laidOut ≡ true → n ≡ firstFailed m (yesNoChecks (m .kind))
+  pub slender-first : {s t : Strut} {n : ℕ} → s ≡ strutOf m acrossHeight → t ≡ strutOf m acrossWidth → n ≡ tooSlender s t → required (m .kind) 11 ≡ true → layoutPassed ≡ true → n ≡ firstFailed m (yesNoChecks (m .kind))
   unfolding firstFailed
   slender-first high wide found has laid = found ∙ ap₂ tooSlender high wide ∙ by (m .kind) has
     where
@@ -83,9 +83,9 @@ module _ (m : Member) where
 
   layout-decides : (v : Verdict) → ByFirst (yesNoChecks Tension) (jointLength ∷ []) v
   unfolding judgeBy firstFailed
-  layout-decides v = by laidOut refl
+  layout-decides v = by layoutPassed refl
     where
-      by : (t : Bool) → laidOut ≡ t → ByFirst (yesNoChecks Tension) (jointLength ∷ []) v
+      by : (t : Bool) → layoutPassed ≡ t → ByFirst (yesNoChecks Tension) (jointLength ∷ []) v
       by true e = rw e (struts-decide (jointLength ∷ []) v refl)
       by false e = rw e refl
 

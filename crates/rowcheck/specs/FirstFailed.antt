@@ -8,7 +8,7 @@ use Rattle.member.specs.Checks.{YesNoCheck, yesNo, checkNumber, omitted}
 use Rattle.member.specs.Verdict.{holds}
 use Rattle.member.specs.declared.member.Member.{Member}
 
--- of layout and slenderness, checks 1 to 3, among these checks, the number of the first that the row has and that fails, 0 where none does
+-- the number of the first of these checks that is of layout or slenderness (1 to 3), that the row has and that fails; 0 where there is none
 unfoldable pub firstFailed : Member → List YesNoCheck → ℕ
 firstFailed m [] = 0
 firstFailed m (c ∷ checks) =

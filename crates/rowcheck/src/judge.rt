@@ -61,7 +61,7 @@ fn first_failed(m: Member, height: Strut, width: Strut) -> u32
     first_too_slender(m.table16, height, width)
 }
 
-// The strength check that governs a member without a joint.
+// The strength check that governs a member without a joint, with its struts across the height and across the width.
 fn governing_check(m: Member, height: Strut, width: Strut) -> Governing
     requires { ⌜ RangesOf (m .kind) m × (m .jointed ≡ false) × (height ≡ strutOf m acrossHeight) × (width ≡ strutOf m acrossWidth) ⌝ }
     ensures { λ r. ⌜ r ≡ governing m (strengthChecks (m .kind)) ⌝ }
@@ -81,25 +81,25 @@ fn governing_check(m: Member, height: Strut, width: Strut) -> Governing
         // checks 9 and 10
         Kind::Compression => {
             let nr = compression_resistance(b, h, material);
-            let across_height = buckling_check(9, m.force, nr, height);
-            greater(across_height, buckling_check(10, m.force, nr, width))
+            let check_9 = buckling_check(9, m.force, nr, height);
+            greater(check_9, buckling_check(10, m.force, nr, width))
         }
         // checks 8 to 11
         Kind::CompressionBending => {
             let nr = compression_resistance(b, h, material);
             let mr = moment_resistance(b, h, material);
-            let across_height = buckling_check(9, m.force, nr, height);
-            let across_width = buckling_check(10, m.force, nr, width);
-            let combined = compression_bending_check(m.force, m.moment, nr, mr, height);
-            let buckling = greater(across_height, greater(across_width, combined));
-            greater(shear_check(m.shear, b, h, material), buckling)
+            let check_9 = buckling_check(9, m.force, nr, height);
+            let check_10 = buckling_check(10, m.force, nr, width);
+            let check_11 = compression_bending_check(m.force, m.moment, nr, mr, height);
+            let check_8 = shear_check(m.shear, b, h, material);
+            greater(check_8, greater(check_9, greater(check_10, check_11)))
         }
         // checks 8 and 11
         Kind::TensionBending => {
             let nr = tension_resistance(b, h, material);
             let mr = moment_resistance(b, h, material);
-            let combined = tension_bending_check(m.force, m.moment, nr, mr);
-            greater(shear_check(m.shear, b, h, material), combined)
+            let check_11 = tension_bending_check(m.force, m.moment, nr, mr);
+            greater(shear_check(m.shear, b, h, material), check_11)
         }
     }
 }

@@ -109,7 +109,7 @@ greater-requires-4 c κs = search needs
 
 shear-check-requires-2 : tie.Need-shear-check-requires-2
 shear-check-requires-2 c κs =
-    let sized = c .before .before .before .before .before .before .before .before .before .before .pre .0 .sized in
+    let sized = c .before .before .before .before .before .before .before .before .pre .0 .sized in
     (sized .section, sized .material)
 
 greater-requires-5 : tie.Need-greater-requires-5
@@ -167,13 +167,13 @@ returns-4 c =
     let start = nr .before in
     let known = start .before .before .before in
     let m = known .args .m in
-    next-governs _ _ refl (c .before .shear-check2 .ensures) _
+    next-governs _ _ refl (c .before .before .before .shear-check2 .ensures) _
     (next-governs _ _ refl (buckling-found m acrossHeight (nr .compression-resistance2 .ensures .exact) (known .pre .2) (combined .before .before .buckling-check3 .ensures)) _
     (next-governs _ _ refl (buckling-found m acrossWidth (nr .compression-resistance2 .ensures .exact) (known .pre .3) (combined .before .buckling-check4 .ensures)) _
     (only _ _ refl
     (compression-bending-found m (nr .compression-resistance2 .ensures .exact) (mr .moment-resistance2 .ensures .exact) (known .pre .2) (combined .compression-bending-check .ensures)))
-    (c .before .before .before .greater3 .ensures))
-    (c .before .before .greater4 .ensures))
+    (c .before .before .greater3 .ensures))
+    (c .before .greater4 .ensures))
     (c .greater5 .ensures)
     ∙ agrees _ (start .enum-told4 .given .1)
 
@@ -211,9 +211,9 @@ governing-check-spec =
     buckling-check-requires-3
     buckling-check-requires-4
     compression-bending-check-requires
+    shear-check-requires-2
     greater-requires-3
     greater-requires-4
-    shear-check-requires-2
     greater-requires-5
     enum-told-5
     tension-resistance-requires-2
