@@ -122,8 +122,31 @@
  *   - each pointer is valid for as many bytes as its length says; it may be
  *     null only where that length is 0;
  *   - the buffer that is written overlaps no part of the row.
- * Bytes need no alignment. Nothing is kept between calls: several threads may
- * call at once, each with a buffer of its own to write to.
+ * Bytes need no alignment.
+ *
+ *
+ * WHERE IT RUNS
+ *
+ * libaddin.a is one ELF object of position-independent code for any x86-64
+ * processor, with the calling convention of System V. It links on 64-bit Linux,
+ * into programs and into shared libraries, and calls nothing, not even the C
+ * library; it is tested with gcc, g++, cargo and glibc. It does not work on
+ * Windows or macOS (other object files and conventions), on ARM, or in 32-bit
+ * programs.
+ *
+ * Stack: lvl_check_row 1,112 bytes, lvl_pack_row 1,384 bytes. No heap, no
+ * system call, no lock, and no data of its own that it writes.
+ *
+ * Threads: any number may call at once, each with a buffer of its own to write
+ * to. Nothing is kept between calls.
+ *
+ * Floating point: answers do not depend on the mode of the thread that calls.
+ * Flush to zero and denormals are zero (which -ffast-math sets, also through a
+ * library that was built with it), the four ways to round, and exceptions that
+ * are unmasked change nothing, with one exception that the language leaves no
+ * means to avoid: where the denormal exception is unmasked, and denormals are
+ * not zero, a cell that holds a subnormal raises it (SIGFPE on Linux). Of the
+ * status flags only that of denormals may be set by a call.
  *
  *
  * EXAMPLE

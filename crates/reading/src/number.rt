@@ -11,16 +11,20 @@ fn read_whole(number: u64) -> Reading
     Reading::Read(Cell::Whole(number))
 }
 
-// The reading of the float with these bits.
+// The reading of the float with these bits. The two zeros are each compared whole: a test of the bits below the sign would be
+// compiled to a comparison of floats, to which a subnormal is zero where the host has set denormals to zero.
 fn read_bits(bits: u64) -> Reading
     ensures { λ r. ⌜ r ≡ readNumber (ofBits binary64 bits) ⌝ }
 {
-    // 0 and −0
-    if bits % 0x8000_0000_0000_0000 == 0 {
+    if bits == 0 {
+        return read_whole(0);
+    }
+    // −0
+    if bits == 0x8000_0000_0000_0000 {
         return read_whole(0);
     }
     // below 0
-    if 0x8000_0000_0000_0000 <= bits {
+    if 0x8000_0000_0000_0000 < bits {
         return Reading::Unreadable;
     }
     // below 1

@@ -1,27 +1,6 @@
 //! Hosts in C99 and in C++11, compiled against the header and linked with the archive, get the answers that it states.
+use crate::building::{compile, include_folder, printed, scratch, source, succeed, C99, CPP11};
 use lvl_addin::row::{ANSWER_BYTES, CELLS, PACKED_BYTES};
-use std::path::{Path, PathBuf};
-use std::process::Command;
-
-struct Language {
-    compiler: &'static str,
-    standard: &'static str,
-    name: &'static str,
-}
-
-const C99: Language = Language {
-    compiler: "gcc",
-    standard: "-std=c99",
-    name: "c",
-};
-const CPP11: Language = Language {
-    compiler: "g++",
-    standard: "-std=c++11",
-    name: "c++",
-};
-
-const WARNINGS: [&str; 4] = ["-Wall", "-Wextra", "-pedantic", "-Werror"];
-
 /// What the test hosts print, with the sizes of the bindings: the header's are no others.
 fn expected() -> String {
     let blank = CELLS.div_ceil(8);
@@ -91,55 +70,4 @@ fn the_example_of_the_header() {
     let file = scratch("example.c");
     std::fs::write(&file, code).unwrap();
     assert_eq!(printed(&C99, "example", &file).trim_end(), promised);
-}
-
-/// What a program of one source prints.
-fn printed(language: &Language, name: &str, source: &Path) -> String {
-    let program = scratch(name);
-    let archive = package().join("../../target/staticlib/libaddin.a");
-    succeed(
-        compile(language)
-            .arg(source)
-            .arg(archive)
-            .arg("-o")
-            .arg(&program),
-    );
-    succeed(&mut Command::new(program))
-}
-
-/// The compiler's command, up to the files.
-fn compile(language: &Language) -> Command {
-    let mut command = Command::new(language.compiler);
-    command
-        .arg(language.standard)
-        .args(WARNINGS)
-        .arg("-I")
-        .arg(include_folder());
-    command
-}
-
-/// What a command prints that has to succeed.
-fn succeed(command: &mut Command) -> String {
-    let output = command
-        .output()
-        .unwrap_or_else(|error| panic!("{command:?}: {error}"));
-    let errors = String::from_utf8_lossy(&output.stderr);
-    assert!(output.status.success(), "{command:?}: {errors}");
-    String::from_utf8(output.stdout).unwrap()
-}
-
-fn package() -> PathBuf {
-    PathBuf::from(env!("CARGO_MANIFEST_DIR"))
-}
-
-fn include_folder() -> PathBuf {
-    package().join("../../include")
-}
-
-fn source(name: &str) -> PathBuf {
-    package().join("tests/c").join(name)
-}
-
-fn scratch(name: &str) -> PathBuf {
-    PathBuf::from(env!("CARGO_TARGET_TMPDIR")).join(name)
 }

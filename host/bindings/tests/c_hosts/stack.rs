@@ -1,0 +1,32 @@
+//! The stack that an entry needs is what the header says.
+use crate::building::{include_folder, printed, source, C99};
+
+/// The figure after a word in a text, commas left out.
+fn figure(text: &str, word: &str) -> usize {
+    let (_, after) = text
+        .split_once(word)
+        .unwrap_or_else(|| panic!("no {word} in {text}"));
+    let digits: String = after
+        .trim_start()
+        .chars()
+        .take_while(|c| c.is_ascii_digit() || *c == ',')
+        .filter(|c| *c != ',')
+        .collect();
+    digits.parse().unwrap()
+}
+
+/// What an entry reserves it need not touch to the last byte.
+#[test]
+fn no_more_than_the_header_says() {
+    let touched = printed(&C99, "stack", &source("stack.c"));
+    let header = std::fs::read_to_string(include_folder().join("lvl_addin.h")).unwrap();
+    let (_, stack) = header.split_once("Stack: ").expect("a paragraph on it");
+    for entry in ["check", "pack"] {
+        let stated = figure(stack, &format!("lvl_{entry}_row"));
+        let touched = figure(&touched, entry);
+        assert!(
+            touched <= stated && stated < touched + 200,
+            "{entry}: {touched} bytes, stated {stated}"
+        );
+    }
+}
