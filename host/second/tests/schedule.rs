@@ -1,4 +1,7 @@
 //! The program `schedule` against the second implementation's text, and its stored input and output.
+#[path = "schedule/streams.rs"]
+mod streams;
+
 use lvl_addin::answer::Refusal;
 use lvl_addin::row::CELLS;
 use lvl_second::cells::LAST_OF_JOINT;
@@ -7,13 +10,16 @@ use lvl_second::rows::judged;
 use lvl_second::rows::random::Random;
 use lvl_second::{Paper, Rules, INPUT_BYTES};
 use std::collections::BTreeSet;
-use std::io::{Read, Write};
+use std::io::Write;
 use std::path::{Path, PathBuf};
 use std::process::{Child, Command, Stdio};
 use std::time::Duration;
 
 /// What document 01 gives for the bytes 00 00 00 80.
 const OF_THE_PAPER: &str = "1 refused 2 1\n2 refused 6 1\n";
+
+/// What the program says on standard error of an input that is longer than it takes in.
+const INPUT_CUT: &str = "schedule: the input is longer than 65,536 bytes: the rest is ignored\n";
 
 fn root() -> PathBuf {
     Path::new(env!("CARGO_MANIFEST_DIR")).join("../..")
@@ -23,12 +29,17 @@ fn stored_folder() -> PathBuf {
     root().join("crates").join("schedule")
 }
 
+fn program_path() -> PathBuf {
+    root().join("target").join("bin").join("schedule")
+}
+
 /// Starts the built program.
 fn start() -> Child {
-    let program = root().join("target").join("bin").join("schedule");
+    let program = program_path();
     let started = Command::new(&program)
         .stdin(Stdio::piped())
         .stdout(Stdio::piped())
+        .stderr(Stdio::piped())
         .spawn();
     started.unwrap_or_else(|why| {
         panic!(
@@ -38,12 +49,12 @@ fn start() -> Child {
     })
 }
 
-/// What the program prints for an input that is written in pieces of this length, with a pause after each.
+/// What the program prints for an input that is written in pieces of this length, with a pause after each. On standard error it
+/// says that an input is longer than it takes in, and nothing else.
 fn printed_in_pieces(input: &[u8], length: usize, pause: Duration) -> String {
     let mut program = start();
     let mut stdin = program.stdin.take().expect("standard input is piped");
-    let mut stdout = program.stdout.take().expect("standard output is piped");
-    let text = std::thread::scope(|scope| {
+    let ended = std::thread::scope(|scope| {
         scope.spawn(move || {
             for piece in input.chunks(length) {
                 // The program may end before it has read everything.
@@ -53,14 +64,13 @@ fn printed_in_pieces(input: &[u8], length: usize, pause: Duration) -> String {
                 std::thread::sleep(pause);
             }
         });
-        let mut text = String::new();
-        stdout
-            .read_to_string(&mut text)
-            .expect("the program prints text");
-        text
+        program.wait_with_output().expect("the program ends")
     });
-    assert!(program.wait().expect("the program ends").success());
-    text
+    assert!(ended.status.success());
+    let said = String::from_utf8(ended.stderr).expect("the program says text");
+    let is_cut = input.len() > INPUT_BYTES;
+    assert_eq!(said, if is_cut { INPUT_CUT } else { "" });
+    String::from_utf8(ended.stdout).expect("the program prints text")
 }
 
 /// What the program prints for an input.
@@ -222,6 +232,16 @@ fn what_exceeds_the_limit_is_ignored() {
         assert_eq!(text, Paper::schedule(&cut_by_the_limit));
         assert_eq!(last_refusal(&text).map(|refusal| refusal.number), Some(6));
     }
+}
+
+/// The byte at the limit is the last that is taken in, and the first beyond it the first that the program speaks of.
+#[test]
+fn the_limit_is_met_to_the_byte() {
+    let blanks = vec![0; INPUT_BYTES + 1];
+    let at_the_limit = printed(&blanks[..INPUT_BYTES]);
+    assert_eq!(at_the_limit, Paper::schedule(&blanks[..INPUT_BYTES]));
+    assert_eq!(printed(&blanks), at_the_limit);
+    assert_printed(&blanks[..INPUT_BYTES - 1]);
 }
 
 #[test]
