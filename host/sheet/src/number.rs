@@ -4,8 +4,9 @@
 #[derive(Clone, Copy, Debug, PartialEq)]
 pub enum Typed {
     Blank,
+    /// Never a whole float where the text says a fraction, unless it is far too great for a cell.
     Number(f64),
-    /// A mark before the last three digits, where both a thousands mark and a decimal mark would be common.
+    /// A mark before the last three digits: a thousands mark to some, a decimal mark to others.
     Unclear,
     /// Anything else.
     Text,
@@ -52,24 +53,63 @@ pub fn read(text: &str, mark: DecimalMark) -> Typed {
         b'+' => ("", &text[1..]),
         _ => ("", text),
     };
-    let (mantissa, exponent) = unsigned.split_once(['e', 'E']).unwrap_or((unsigned, "0"));
+    let (mantissa, exponent) = match unsigned.split_once(['e', 'E']) {
+        Some((mantissa, exponent)) => (mantissa, Some(exponent)),
+        None => (unsigned, None),
+    };
     let (whole, decimals) = split_at_mark(mantissa, mark);
     let Some(digits) = without_grouping(whole) else {
         return Typed::Text;
     };
-    if !is_digits(decimals) || digits.len() + decimals.len() == 0 || !is_exponent(exponent) {
+    if !is_digits(decimals)
+        || digits.len() + decimals.len() == 0
+        || !exponent.is_none_or(is_exponent)
+    {
         return Typed::Text;
     }
-    if mark == DecimalMark::PointOrComma
-        && exponent == "0"
-        && decimals.len() == 3
-        && may_lead_a_group(&digits)
-    {
+    if exponent.is_none() && decimals.len() == 3 && may_lead_a_group(&digits) {
         return Typed::Unclear;
     }
+    let exponent = exponent.unwrap_or("0");
     match format!("{sign}{digits}.{decimals}e{exponent}").parse() {
-        Ok(number) => Typed::Number(number),
+        Ok(number) if is_whole(&digits, decimals, exponent) => Typed::Number(number),
+        Ok(number) => Typed::Number(not_whole(number)),
         Err(_) => Typed::Text,
+    }
+}
+
+/// Whether the digits say a whole number: a float may be too coarse to tell.
+fn is_whole(digits: &str, decimals: &str, exponent: &str) -> bool {
+    let last_nonzero = |text: &str| text.bytes().rposition(|byte| byte != b'0');
+    // How far the last digit that counts stands behind the decimal mark.
+    let behind_mark = match (last_nonzero(decimals), last_nonzero(digits)) {
+        (Some(at), _) => at as i64 + 1,
+        (None, Some(at)) => at as i64 + 1 - digits.len() as i64,
+        (None, None) => return true,
+    };
+    behind_mark <= shift(exponent)
+}
+
+/// By how many places an exponent moves the mark to the right; one beyond any text's length stays so.
+fn shift(exponent: &str) -> i64 {
+    let beyond = if exponent.starts_with('-') {
+        i64::MIN
+    } else {
+        i64::MAX
+    };
+    exponent.parse().unwrap_or(beyond)
+}
+
+/// The float for a number that is not whole: the nearest one, or its neighbour towards zero where that is whole.
+///
+/// Where floats have no fractions any more the number is too great for a cell anyhow.
+fn not_whole(nearest: f64) -> f64 {
+    if nearest.fract() != 0.0 {
+        nearest
+    } else if nearest == 0.0 {
+        f64::from_bits(1).copysign(nearest)
+    } else {
+        f64::from_bits(nearest.to_bits() - 1)
     }
 }
 
