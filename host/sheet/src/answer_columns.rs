@@ -1,7 +1,9 @@
-//! The sheet once more, with the answers in columns after the last cell.
-use crate::columns::Columns;
+//! The sheet once more, with the answers in columns of their own.
+use crate::columns::{Column, Columns};
 use crate::fields::{self, Fields};
+use crate::headings::Heading;
 use crate::lines::BYTE_ORDER_MARK;
+use crate::opening::Opening;
 use crate::row::{Outcome, SheetRow};
 use crate::{words, Report};
 use std::borrow::Cow;
@@ -26,24 +28,23 @@ impl<W: Write> AnswerColumns<W> {
         AnswerColumns { output }
     }
 
-    /// The fields up to the last cell, the answers below their headings, and what stood further right.
+    /// The fields, the answers in the columns that they have already or else in new ones, and what stood further right.
     fn write<'a>(
         &mut self,
         columns: &Columns,
-        fields: impl Iterator<Item = Cow<'a, [u8]>>,
+        mut fields: Vec<Cow<'a, [u8]>>,
         answers: [String; HEADINGS.len()],
         extra: Fields<'a>,
     ) -> io::Result<()> {
-        let missing = std::iter::repeat(Cow::Borrowed(&b""[..]));
-        let answers = answers
-            .into_iter()
-            .map(|answer| Cow::Owned(answer.into_bytes()));
-        let line = fields
-            .chain(missing)
-            .take(columns.to_last_cell())
-            .chain(answers)
-            .chain(extra);
-        for (i, field) in line.enumerate() {
+        fields.resize(columns.width(), Cow::Borrowed(b""));
+        for (number, answer) in answers.into_iter().enumerate() {
+            let answer = Cow::Owned(answer.into_bytes());
+            match columns.place_of(Heading::Answer(number)) {
+                Some(place) => fields[place] = answer,
+                None => fields.push(answer),
+            }
+        }
+        for (i, field) in fields.into_iter().chain(extra).enumerate() {
             if i > 0 {
                 self.output.write_all(&[columns.separator])?;
             }
@@ -51,38 +52,47 @@ impl<W: Write> AnswerColumns<W> {
         }
         self.output.write_all(b"\n")
     }
+
+    fn write_as_it_stood(&mut self, line: &[u8]) -> io::Result<()> {
+        self.output.write_all(line)?;
+        self.output.write_all(b"\n")
+    }
 }
 
 impl<W: Write> Report for AnswerColumns<W> {
     /// A sheet without a header gets one.
-    fn begin(&mut self, columns: &Columns, header: Option<&[u8]>) -> io::Result<()> {
-        if columns.marked {
+    fn begin(&mut self, opening: &Opening) -> io::Result<()> {
+        if opening.is_marked() {
             self.output.write_all(BYTE_ORDER_MARK)?;
         }
-        let answers = HEADINGS.map(str::to_owned);
-        match header {
+        for line in &opening.above {
+            self.write_as_it_stood(&line.text)?;
+        }
+        let columns = &opening.columns;
+        match &opening.header {
             Some(header) => {
-                let (own, extra) = columns.split(header);
-                self.write(columns, own.into_iter(), answers, extra)
+                let (own, extra) = columns.split(&header.text);
+                let answers = answer_headings(columns, &own);
+                self.write(columns, own, answers, extra)
             }
             None => {
-                let names = ["member"].into_iter().take(columns.before_cells());
-                let headings = names.chain(words::cells().map(|cell| cell.name));
-                let headings = headings.map(|heading| Cow::Borrowed(heading.as_bytes()));
-                self.write(columns, headings, answers, Fields::none())
+                let own = columns
+                    .iter()
+                    .map(|column| Cow::Borrowed(heading(column).as_bytes()));
+                let answers = HEADINGS.map(str::to_owned);
+                self.write(columns, own.collect(), answers, Fields::none())
             }
         }
     }
 
     fn blank(&mut self, line: &[u8]) -> io::Result<()> {
-        self.output.write_all(line)?;
-        self.output.write_all(b"\n")
+        self.write_as_it_stood(line)
     }
 
     fn row(&mut self, row: &SheetRow, outcome: &Outcome) -> io::Result<()> {
         self.write(
             row.columns,
-            row.fields.iter().cloned(),
+            row.fields.clone(),
             answers(outcome),
             row.extra.clone(),
         )
@@ -90,6 +100,26 @@ impl<W: Write> Report for AnswerColumns<W> {
 
     fn end(&mut self) -> io::Result<()> {
         self.output.flush()
+    }
+}
+
+/// The answers' headings, as the header has them already or else their own.
+fn answer_headings(columns: &Columns, header: &[Cow<[u8]>]) -> [String; HEADINGS.len()] {
+    std::array::from_fn(|number| match columns.place_of(Heading::Answer(number)) {
+        Some(place) => String::from_utf8_lossy(&header[place]).into_owned(),
+        None => HEADINGS[number].to_owned(),
+    })
+}
+
+/// The heading of a column in a sheet that has none.
+fn heading(column: Column) -> &'static str {
+    match column {
+        Column::Holds(Heading::Member) => "member",
+        Column::Holds(Heading::Cell(number)) => {
+            words::cell_words(number).map_or("", |cell| cell.name)
+        }
+        Column::Holds(Heading::Answer(number)) => HEADINGS[number],
+        Column::Skipped | Column::Unheaded => "",
     }
 }
 

@@ -1,122 +1,133 @@
-//! Where a sheet has what: its separator, its decimal mark, the column of the members' names.
+//! What each column of a sheet holds, its separator and its decimal mark.
 use crate::answer_columns::HEADINGS;
-use crate::fields::{self, Fields, SEPARATORS};
-use crate::lines::Line;
+use crate::fields::{self, Fields};
+use crate::headings::{self, Heading, Meaning};
 use crate::number::{self, DecimalMark, Typed};
 use lvl_addin::row::CELLS;
 use std::borrow::Cow;
 
+/// How a person wants the columns to be taken.
+#[derive(Clone, Debug, Default)]
+pub struct ColumnOptions {
+    /// By the order of the cells, whatever their headings say.
+    pub by_position: bool,
+    /// Headings of columns that are passed over.
+    pub skip: Vec<String>,
+}
+
+#[derive(Clone, Copy, Debug, PartialEq, Eq)]
+pub enum Column {
+    Holds(Heading),
+    /// The office's own, passed over.
+    Skipped,
+    /// Nothing may stand there.
+    Unheaded,
+}
+
+/// What decides which column holds what.
+#[derive(Clone, Debug, PartialEq, Eq)]
+pub enum Basis {
+    /// The header with these keys of its headings.
+    Headings(Vec<String>),
+    /// The order of the cells, since there is no header.
+    NoHeader,
+    /// The order of the cells, since it was asked for.
+    Asked,
+}
+
 #[derive(Debug)]
 pub struct Columns {
     pub separator: u8,
-    /// Whether the members' names stand before cell 1.
-    pub named: bool,
-    /// Whether the answers of an earlier run stand after the last cell.
-    pub answered: bool,
-    /// Whether the file begins with a byte order mark.
-    pub marked: bool,
+    pub basis: Basis,
+    /// Fields further right are as good as unheaded.
+    columns: Vec<Column>,
 }
 
 impl Columns {
-    /// The columns of the sheet that begins with this line, and whether the line is a header.
-    ///
-    /// It is one unless a field after the first is a number. The first column has names unless it is headed as the
-    /// kind, or, without a header, unless it begins with a number.
-    pub fn found_in(line: &Line) -> (Columns, bool) {
-        let mut columns = Columns {
-            separator: most_frequent_separator(line.text),
-            named: false,
-            answered: false,
-            marked: line.marked,
-        };
-        let mut fields = Fields::of(line.text, columns.separator);
-        let first = fields.next().unwrap_or_default();
-        let has_header = !fields.any(|field| columns.is_number(&field));
-        columns.named = match has_header {
-            true => !String::from_utf8_lossy(&first)
-                .to_lowercase()
-                .contains("kind"),
-            false => !columns.is_number(&first) && !fields::is_empty(&first),
-        };
-        columns.answered = has_header && columns.are_answers_headed(line.text);
-        (columns, has_header)
-    }
-
-    /// How many columns come before cell 1.
-    pub fn before_cells(&self) -> usize {
-        usize::from(self.named)
-    }
-
-    /// How many columns there are up to the last cell.
-    pub fn to_last_cell(&self) -> usize {
-        self.before_cells() + CELLS
-    }
-
-    /// How many columns of answers follow.
-    pub fn answers(&self) -> usize {
-        if self.answered {
-            HEADINGS.len()
-        } else {
-            0
+    pub fn new(separator: u8, basis: Basis, columns: Vec<Column>) -> Columns {
+        Columns {
+            separator,
+            basis,
+            columns,
         }
     }
 
-    /// The fields of a line up to the last cell, as many as there are, and those after it, without an earlier run's
-    /// answers.
-    pub fn split<'a>(&self, line: &'a [u8]) -> (Vec<Cow<'a, [u8]>>, Fields<'a>) {
-        let mut rest = Fields::of(line, self.separator);
-        let fields = rest.by_ref().take(self.to_last_cell()).collect();
-        rest.by_ref().take(self.answers()).for_each(drop);
-        (fields, rest)
-    }
-
-    /// A comma that separates fields is no decimal mark.
-    pub fn decimal_mark(&self) -> DecimalMark {
-        match self.separator {
-            b',' => DecimalMark::Point,
-            _ => DecimalMark::PointOrComma,
+    /// The names, unless the first column is the kind's, the cells in their order, and an earlier run's answers.
+    pub fn in_order_below(header: &[u8], separator: u8, basis: Basis) -> Columns {
+        let first = Fields::of(header, separator).next().unwrap_or_default();
+        let first = String::from_utf8_lossy(&first);
+        let is_kind = headings::read(&first) == Meaning::Known(Heading::Cell(1))
+            || first.to_lowercase().contains("kind");
+        let mut columns = Columns::in_order(separator, basis, !is_kind);
+        if columns.are_answers_headed(header) {
+            let answers = (0..HEADINGS.len()).map(|answer| Column::Holds(Heading::Answer(answer)));
+            columns.columns.extend(answers);
         }
+        columns
     }
 
-    /// What a field's bytes are as a cell.
-    pub fn typed(&self, field: &[u8]) -> Typed {
-        match std::str::from_utf8(field) {
-            Ok(text) => number::read(text, self.decimal_mark()),
-            Err(_) => Typed::Text,
-        }
+    /// Without a header: the names, unless the first row begins with a number or nothing, and the cells.
+    pub fn in_order_from(row: &[u8], separator: u8, basis: Basis) -> Columns {
+        let first = Fields::of(row, separator).next().unwrap_or_default();
+        let named = !is_number(&first, separator) && !fields::is_empty(&first);
+        Columns::in_order(separator, basis, named)
     }
 
-    fn is_number(&self, field: &[u8]) -> bool {
-        matches!(self.typed(field), Typed::Number(_) | Typed::Unclear)
+    fn in_order(separator: u8, basis: Basis, named: bool) -> Columns {
+        let member = named.then_some(Heading::Member);
+        let cells = (1..=CELLS).map(Heading::Cell);
+        let columns = member.into_iter().chain(cells).map(Column::Holds).collect();
+        Columns::new(separator, basis, columns)
     }
 
     fn are_answers_headed(&self, header: &[u8]) -> bool {
-        let mut after_cells = Fields::of(header, self.separator).skip(self.to_last_cell());
+        let mut after_cells = Fields::of(header, self.separator).skip(self.width());
         HEADINGS.iter().all(|heading| {
             after_cells
                 .next()
                 .is_some_and(|field| field.as_ref() == heading.as_bytes())
         })
     }
+
+    /// How many columns there are.
+    pub fn width(&self) -> usize {
+        self.columns.len()
+    }
+
+    pub fn iter(&self) -> impl Iterator<Item = Column> + '_ {
+        self.columns.iter().copied()
+    }
+
+    /// The place of the column that holds this, from 0.
+    pub fn place_of(&self, heading: Heading) -> Option<usize> {
+        self.iter()
+            .position(|column| column == Column::Holds(heading))
+    }
+
+    /// The fields of a line that have a column, as many as there are, and those further right.
+    pub fn split<'a>(&self, line: &'a [u8]) -> (Vec<Cow<'a, [u8]>>, Fields<'a>) {
+        let mut rest = Fields::of(line, self.separator);
+        let fields = rest.by_ref().take(self.width()).collect();
+        (fields, rest)
+    }
 }
 
-/// Counted outside quotes.
-fn most_frequent_separator(line: &[u8]) -> u8 {
-    let mut counts = [0_usize; SEPARATORS.len()];
-    let mut quoted = false;
-    for byte in line {
-        if *byte == b'"' {
-            quoted = !quoted;
-        } else if let Some(i) = SEPARATORS
-            .iter()
-            .position(|separator| separator == byte && !quoted)
-        {
-            counts[i] += 1;
-        }
+/// What a field's bytes are as a cell.
+pub fn typed(field: &[u8], separator: u8) -> Typed {
+    match std::str::from_utf8(field) {
+        Ok(text) => number::read(text, decimal_mark(separator)),
+        Err(_) => Typed::Text,
     }
-    let most = counts.into_iter().max().unwrap_or(0);
-    match counts.iter().position(|&count| count == most && most > 0) {
-        Some(i) => SEPARATORS[i],
-        None => b',',
+}
+
+pub fn is_number(field: &[u8], separator: u8) -> bool {
+    matches!(typed(field, separator), Typed::Number(_) | Typed::Unclear)
+}
+
+/// A comma that separates fields is no decimal mark.
+fn decimal_mark(separator: u8) -> DecimalMark {
+    match separator {
+        b',' => DecimalMark::Point,
+        _ => DecimalMark::PointOrComma,
     }
 }

@@ -18,7 +18,6 @@ pub struct Lines<R> {
     line: Vec<u8>,
     number: u64,
     after_return: bool,
-    put_back: bool,
 }
 
 impl<R: BufRead> Lines<R> {
@@ -28,19 +27,16 @@ impl<R: BufRead> Lines<R> {
             line: Vec::new(),
             number: 0,
             after_return: false,
-            put_back: false,
         }
     }
 
     /// The next line, if there is one.
     pub fn next_line(&mut self) -> io::Result<Option<Line<'_>>> {
-        if !std::mem::take(&mut self.put_back) {
-            self.line.clear();
-            if !self.read_line()? {
-                return Ok(None);
-            }
-            self.number += 1;
+        self.line.clear();
+        if !self.read_line()? {
+            return Ok(None);
         }
+        self.number += 1;
         let after_mark = self
             .line
             .strip_prefix(BYTE_ORDER_MARK)
@@ -50,11 +46,6 @@ impl<R: BufRead> Lines<R> {
             marked: after_mark.is_some(),
             text: after_mark.unwrap_or(&self.line),
         }))
-    }
-
-    /// Makes the line that was read last the next one.
-    pub fn put_back(&mut self) {
-        self.put_back = true;
     }
 
     /// Reads up to the next line end; false where nothing is left.

@@ -1,5 +1,6 @@
 //! `sheet FILE.csv`: the verdicts on a sheet of members, as a table or as columns beside the input.
 use lvl_sheet::answer_columns::AnswerColumns;
+use lvl_sheet::columns::ColumnOptions;
 use lvl_sheet::options::{self, Command, Form, Source};
 use lvl_sheet::progress::Progress;
 use lvl_sheet::table::Table;
@@ -16,7 +17,11 @@ const NOT_JUDGED: u8 = 2;
 fn main() -> ExitCode {
     let code = match options::read(std::env::args_os().skip(1)) {
         Ok(Command::Help) => help(),
-        Ok(Command::Judge { source, form }) => judge_source(&source, form),
+        Ok(Command::Judge {
+            source,
+            form,
+            columns,
+        }) => judge_source(&source, form, &columns),
         Err(message) => complain(&message),
     };
     ExitCode::from(code)
@@ -29,7 +34,7 @@ fn help() -> u8 {
     }
 }
 
-fn judge_source(source: &Source, form: Form) -> u8 {
+fn judge_source(source: &Source, form: Form, columns: &ColumnOptions) -> u8 {
     let (name, input): (String, Box<dyn BufRead>) = match source {
         Source::StandardInput => ("standard input".to_owned(), Box::new(io::stdin().lock())),
         Source::File(path) => {
@@ -40,11 +45,12 @@ fn judge_source(source: &Source, form: Form) -> u8 {
             }
         }
     };
-    match written(input, form) {
+    match written(input, form, columns) {
         Ok(tally) if tally.rows == 0 => complain(&format!("{name}: there are no rows")),
         Ok(tally) if tally.all_passed() => ALL_PASS,
         Ok(_) => SOME_DO_NOT,
         Err(Stop::Read(error)) => complain(&format!("{name}: {error}")),
+        Err(Stop::Columns(message)) => complain(&format!("{name}: {message}")),
         Err(Stop::Utf16) => complain(&format!(
             "{name}: the text is UTF-16: save it as CSV in UTF-8"
         )),
@@ -55,13 +61,18 @@ fn judge_source(source: &Source, form: Form) -> u8 {
 }
 
 /// Writes the answers in the form asked for, then the summary.
-fn written(input: Box<dyn BufRead>, form: Form) -> Result<Tally, Stop> {
+fn written(input: Box<dyn BufRead>, form: Form, columns: &ColumnOptions) -> Result<Tally, Stop> {
     let mut output = BufWriter::with_capacity(1 << 16, io::stdout().lock());
     // Rows that run over a terminal are progress enough.
     let mut progress = Progress::new(io::stderr().is_terminal() && !io::stdout().is_terminal());
     let judged = match form {
-        Form::Table => judge(input, &mut Table::new(&mut output), &mut progress),
-        Form::Csv => judge(input, &mut AnswerColumns::new(&mut output), &mut progress),
+        Form::Table => judge(input, columns, &mut Table::new(&mut output), &mut progress),
+        Form::Csv => judge(
+            input,
+            columns,
+            &mut AnswerColumns::new(&mut output),
+            &mut progress,
+        ),
     };
     progress.clear();
     let tally = judged?;

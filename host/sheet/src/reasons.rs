@@ -1,4 +1,5 @@
 //! Why a row is refused, in words: the refusal's number, its cell, and what was typed there.
+use crate::columns::Basis;
 use crate::number::Typed;
 use crate::row::SheetRow;
 use crate::text::shown;
@@ -30,15 +31,18 @@ pub fn refusal(refusal: Refusal, row: &SheetRow) -> String {
     format!("cell {number} {}: {reason}", words.name)
 }
 
-/// For a row that goes on past the last cell.
+/// For a row with something in a column that holds nothing known.
 pub fn extra_column(row: &SheetRow) -> String {
-    match row.extra_column() {
-        Some((column, field)) => {
-            let text = shown(&String::from_utf8_lossy(&field), QUOTED);
+    let Some((column, field)) = row.extra_column() else {
+        return "no column without a heading is filled".to_owned();
+    };
+    let text = shown(&String::from_utf8_lossy(&field), QUOTED);
+    match row.columns.basis {
+        Basis::Headings(_) => format!("column {column}: \"{text}\" stands below no heading"),
+        Basis::NoHeader | Basis::Asked => {
             let last = words::cell_words(CELLS).map_or("", |words| words.name);
             format!("column {column}: \"{text}\" stands past the last cell, {CELLS} {last}")
         }
-        None => "no column past the last cell is filled".to_owned(),
     }
 }
 

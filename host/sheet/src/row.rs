@@ -1,6 +1,7 @@
 //! One row of a sheet, and what became of it.
-use crate::columns::Columns;
+use crate::columns::{typed, Column, Columns};
 use crate::fields::{self, Fields};
+use crate::headings::Heading;
 use crate::lines::Line;
 use crate::number::Typed;
 use lvl_addin::answer::{Refusal, Verdict};
@@ -11,9 +12,9 @@ use std::borrow::Cow;
 pub struct SheetRow<'a> {
     /// The line's number in the file, from 1.
     pub line: u64,
-    /// The fields up to the last cell, as many as there are.
+    /// The fields that have a column, as many as there are.
     pub fields: Vec<Cow<'a, [u8]>>,
-    /// The fields after the last cell, without an earlier run's answers.
+    /// The fields further right.
     pub extra: Fields<'a>,
     pub cells: [Typed; CELLS],
     pub columns: &'a Columns,
@@ -24,7 +25,7 @@ pub struct SheetRow<'a> {
 pub enum Outcome {
     Judged(Verdict),
     Refused(Refusal),
-    /// Not shown to the add-in: a column past the last cell is filled.
+    /// Not shown to the add-in: a column that holds nothing known is filled.
     ExtraColumn,
 }
 
@@ -32,9 +33,10 @@ impl<'a> SheetRow<'a> {
     pub fn read(line: &Line<'a>, columns: &'a Columns) -> SheetRow<'a> {
         let (fields, extra) = columns.split(line.text);
         let mut cells = [Typed::Blank; CELLS];
-        let own_fields = fields.iter().skip(columns.before_cells());
-        for (cell, field) in cells.iter_mut().zip(own_fields) {
-            *cell = columns.typed(field);
+        for (column, field) in columns.iter().zip(&fields) {
+            if let Column::Holds(Heading::Cell(number)) = column {
+                cells[number - 1] = typed(field, columns.separator);
+            }
         }
         SheetRow {
             line: line.number,
@@ -45,7 +47,7 @@ impl<'a> SheetRow<'a> {
         }
     }
 
-    /// The add-in's answer, unless a field past the last cell makes it unclear which cells are meant.
+    /// The add-in's answer, unless a field without a heading makes it unclear which cells are meant.
     pub fn judged(&self) -> Outcome {
         if self.extra_column().is_some() {
             return Outcome::ExtraColumn;
@@ -56,20 +58,25 @@ impl<'a> SheetRow<'a> {
         }
     }
 
-    /// The first filled column past the last cell: its number in the file, from 1, and its content.
+    /// The first filled column that holds nothing known: its number in the file, from 1, and its content.
     pub fn extra_column(&self) -> Option<(usize, Cow<'a, [u8]>)> {
-        let first = self.columns.to_last_cell() + self.columns.answers() + 1;
-        let mut numbered = (first..).zip(self.extra.clone());
-        numbered.find(|(_, field)| !fields::is_empty(field))
+        let unheaded = self
+            .columns
+            .iter()
+            .zip(&self.fields)
+            .enumerate()
+            .filter(|(_, (column, _))| *column == Column::Unheaded)
+            .map(|(place, (_, field))| (place, field.clone()));
+        unheaded
+            .chain((self.columns.width()..).zip(self.extra.clone()))
+            .find(|(_, field)| !fields::is_empty(field))
+            .map(|(place, field)| (place + 1, field))
     }
 
     /// The member's name, or the line where it has none.
     pub fn name(&self) -> String {
-        let field = self
-            .fields
-            .first()
-            .filter(|field| self.columns.named && !fields::is_empty(field));
-        match field {
+        let field = self.field(Heading::Member);
+        match field.filter(|field| !fields::is_empty(field)) {
             Some(name) => String::from_utf8_lossy(name).trim().to_owned(),
             None => format!("line {}", self.line),
         }
@@ -82,9 +89,13 @@ impl<'a> SheetRow<'a> {
 
     /// A cell's text.
     pub fn text(&self, number: usize) -> Cow<'_, str> {
-        match self.fields.get(self.columns.before_cells() + number - 1) {
+        match self.field(Heading::Cell(number)) {
             Some(field) => String::from_utf8_lossy(field),
             None => Cow::Borrowed(""),
         }
+    }
+
+    fn field(&self, heading: Heading) -> Option<&Cow<'a, [u8]>> {
+        self.fields.get(self.columns.place_of(heading)?)
     }
 }

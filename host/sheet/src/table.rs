@@ -1,6 +1,6 @@
 //! The table that a person reads.
-use crate::columns::Columns;
 use crate::number::Typed;
+use crate::opening::Opening;
 use crate::row::{Outcome, SheetRow};
 use crate::text::{shown, width};
 use crate::{reasons, words, Report};
@@ -78,7 +78,7 @@ impl<W: Write> Table<W> {
 }
 
 impl<W: Write> Report for Table<W> {
-    fn begin(&mut self, _: &Columns, _: Option<&[u8]>) -> io::Result<()> {
+    fn begin(&mut self, _: &Opening) -> io::Result<()> {
         Ok(())
     }
 

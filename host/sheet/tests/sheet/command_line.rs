@@ -1,5 +1,6 @@
 //! The command line, standard input and output, and what cannot be judged.
 use crate::common::{command, run, table, Run, Scratch, HEADER, ROW_A};
+use lvl_sheet::{answer_columns, heading_names};
 use std::io::{Read, Write};
 use std::process::Stdio;
 
@@ -20,6 +21,12 @@ fn nothing_to_judge() {
         (&[], "usage: sheet"),
         (&["--cvs", "a.csv"], "there is no option --cvs"),
         (&["a.csv", "b.csv"], "one sheet at a time"),
+        (&["a.csv", "--skip"], "--skip needs a heading"),
+        (&["--skip", " ", "a.csv"], "--skip needs a heading"),
+        (
+            &["--skip", "remarks", "--by-position", "a.csv"],
+            "--skip goes by headings, and --by-position passes them by",
+        ),
     ] {
         let run = run(arguments);
         assert_eq!((run.code, run.out.as_str()), (2, ""));
@@ -37,13 +44,48 @@ fn help_names_every_cell_and_exit_code() {
         "--csv",
         "Exit code: 0 every row passes; 1 ",
         "earlier --csv",
-        "in columns after cell 22,",
+        "in columns after its\n",
         "the 22 cells in this order",
+        "in the first 30 lines",
+        "--skip HEADING",
+        "--by-position",
         "in a column past cell 22 is refused",
     ] {
         assert!(run.out.contains(part), "{part}");
     }
     assert!(!run.out.contains(['{', '}']), "{}", run.out);
+    assert!(run.out.lines().all(|line| line.chars().count() <= 90));
+}
+
+#[test]
+fn help_lists_the_headings_that_are_known() {
+    let out = run(&["--help"]).out;
+    let (_, list) = out.split_once("\nHeadings: ").unwrap();
+    let list = list.split_whitespace().collect::<Vec<_>>().join(" ");
+    let listed = |name: &str| {
+        [format!(" {name},"), format!(" {name} ")]
+            .iter()
+            .any(|part| list.contains(part))
+    };
+    for name in heading_names::MEMBER
+        .iter()
+        .chain(&answer_columns::HEADINGS)
+    {
+        assert!(listed(name), "{name}");
+    }
+    for names in &heading_names::CELLS {
+        assert!(
+            names.symbol.is_empty() || listed(names.symbol),
+            "{}",
+            names.symbol
+        );
+        for word in names.words {
+            assert!(listed(word), "{word}");
+        }
+        for word in names.beside_symbol {
+            assert!(listed(&format!("{word} {}", names.symbol)), "{word}");
+        }
+    }
 }
 
 #[test]

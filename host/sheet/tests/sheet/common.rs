@@ -116,6 +116,10 @@ pub fn csv(content: impl AsRef<[u8]>) -> Run {
     Scratch::new(content.as_ref()).run(&["--csv"])
 }
 
+pub fn by_position(content: impl AsRef<[u8]>) -> Run {
+    Scratch::new(content.as_ref()).run(&["--by-position"])
+}
+
 /// The table of rows below the header.
 pub fn table_of(rows: &[&str]) -> Run {
     table(format!("{HEADER}\n{}\n", rows.join("\n")))

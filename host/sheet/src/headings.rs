@@ -1,0 +1,145 @@
+//! What a column's heading names.
+//!
+//! A heading is a name, or a name and the unit of what it names. Case, spaces and brackets do not count, and letters
+//! that look alike in the Cyrillic and the Latin alphabet are one: nobody sees in which of them М, а or кс was typed.
+//! Every other sign counts: N+, N* or 2b are not N or b.
+use crate::answer_columns::HEADINGS;
+use crate::{heading_names, units, words};
+use std::collections::HashMap;
+use std::sync::LazyLock;
+
+#[derive(Clone, Copy, Debug, PartialEq, Eq, Hash)]
+pub enum Heading {
+    /// The member's name.
+    Member,
+    /// A cell by its number, from 1.
+    Cell(usize),
+    /// One of the answers of an earlier run, from 0.
+    Answer(usize),
+}
+
+/// What a heading's text is.
+#[derive(Clone, Copy, Debug, PartialEq, Eq)]
+pub enum Meaning {
+    Empty,
+    Known(Heading),
+    /// A known name of this cell with a unit that the cell does not have.
+    OtherUnit(usize),
+    Unknown,
+}
+
+/// No heading has more words than this.
+const MOST_WORDS: usize = 16;
+
+/// All names that are known, with what they name.
+pub fn known() -> impl Iterator<Item = (Heading, String)> {
+    let members = heading_names::MEMBER
+        .iter()
+        .map(|name| (Heading::Member, name.to_string()));
+    let cells = (1..).zip(&heading_names::CELLS).flat_map(|(cell, names)| {
+        let names = names.all().into_iter();
+        names.map(move |name| (Heading::Cell(cell), name))
+    });
+    let answers = (0..)
+        .zip(HEADINGS)
+        .map(|(answer, name)| (Heading::Answer(answer), name.to_owned()));
+    members.chain(cells).chain(answers)
+}
+
+pub fn read(text: &str) -> Meaning {
+    let words = words_of(text);
+    if text
+        .chars()
+        .all(|letter| letter.is_whitespace() || is_invisible(letter))
+    {
+        return Meaning::Empty;
+    }
+    if words.len() > MOST_WORDS {
+        return Meaning::Unknown;
+    }
+    (1..=words.len())
+        .rev()
+        .find_map(|at| named(&words[..at], &words[at..]))
+        .unwrap_or(Meaning::Unknown)
+}
+
+/// Headings with the same key are the same heading.
+pub fn key(text: &str) -> String {
+    name_key(&words_of(text))
+}
+
+/// What a name and the unit after it mean, if they mean anything.
+fn named(name: &[String], unit: &[String]) -> Option<Meaning> {
+    static BY_KEY: LazyLock<HashMap<String, Heading>> = LazyLock::new(|| {
+        known()
+            .map(|(heading, name)| (key(&name), heading))
+            .collect()
+    });
+    let heading = *BY_KEY.get(&name_key(name))?;
+    if unit.is_empty() {
+        return Some(Meaning::Known(heading));
+    }
+    let Heading::Cell(cell) = heading else {
+        return None;
+    };
+    if units::is(words::cell_words(cell)?.unit, unit) {
+        return Some(Meaning::Known(heading));
+    }
+    units::is_any(unit).then_some(Meaning::OtherUnit(cell))
+}
+
+/// A heading's words in small letters, without what only parts them.
+pub fn words_of(text: &str) -> Vec<String> {
+    let mut words = vec![String::new()];
+    for letter in text.chars().flat_map(char::to_lowercase) {
+        match letter {
+            // The second half of a letter that is written in two: й, ё.
+            '\u{300}'..='\u{36f}' => {}
+            letter if is_invisible(letter) => {}
+            '%' | '‰' => words.extend([letter.to_string(), String::new()]),
+            letter if parts_words(letter) => words.push(String::new()),
+            letter => words.last_mut().expect("one at least").push(plain(letter)),
+        }
+    }
+    words.retain(|word| !word.is_empty());
+    words
+}
+
+/// A soft hyphen, a space of no width, a byte order mark.
+fn is_invisible(letter: char) -> bool {
+    matches!(letter, '\u{ad}' | '\u{200b}' | '\u{feff}')
+}
+
+fn parts_words(letter: char) -> bool {
+    letter.is_whitespace() || ",;:._()[]{}<>\"«»".contains(letter)
+}
+
+fn plain(letter: char) -> char {
+    match letter {
+        'ё' => 'е',
+        'й' => 'и',
+        '²' => '2',
+        '³' => '3',
+        other => other,
+    }
+}
+
+/// Cyrillic letters for the Latin ones that look like them, capital or small.
+fn name_key(words: &[String]) -> String {
+    let latin = |letter| match letter {
+        'а' => 'a',
+        'в' => 'b',
+        'с' => 'c',
+        'е' => 'e',
+        'н' => 'h',
+        'к' => 'k',
+        'м' => 'm',
+        'о' => 'o',
+        'р' => 'p',
+        'т' => 't',
+        'у' => 'y',
+        'х' => 'x',
+        other => other,
+    };
+    words.concat().chars().map(latin).collect()
+}

@@ -1,0 +1,266 @@
+//! Columns by their headings: any order, unknown and doubled ones, other units, those passed over, cells by position.
+use crate::common::{by_position, hall_roof, table, Scratch, HEADER, ROW_A, ROW_B, ROW_E};
+
+/// A table with its columns in another order, the first of them last.
+fn turned(content: &str) -> String {
+    let width = content.lines().next().unwrap().split(',').count();
+    let turned = content.lines().map(|line| {
+        let mut fields: Vec<&str> = line.split(',').collect();
+        fields.resize(width, "");
+        fields.reverse();
+        fields.join(",")
+    });
+    turned.collect::<Vec<_>>().join("\n")
+}
+
+fn stopped(content: &str, options: &[&str]) -> String {
+    let run = Scratch::new(content.as_bytes()).run(options);
+    assert_eq!((run.code, run.out.as_str()), (2, ""), "{content}");
+    run.err
+}
+
+#[test]
+fn exchanged_columns_give_the_verdict_of_their_headings() {
+    let beam = |header: &str| {
+        table(format!(
+            "{header}\nA,2,1,3,10,1000,300,75,,20000000,20000\n"
+        ))
+    };
+    let as_typed = beam(HEADER);
+    assert!(
+        as_typed.line("A ").contains("300 × 75  "),
+        "{}",
+        as_typed.out
+    );
+    assert!(
+        as_typed.line("A ").contains("FAIL       276.3 "),
+        "{}",
+        as_typed.out
+    );
+    let exchanged = beam(&HEADER.replace("b,h", "h,b"));
+    assert!(
+        exchanged.line("A ").contains("75 × 300 "),
+        "{}",
+        exchanged.out
+    );
+    assert!(
+        exchanged.line("A ").contains("pass        69.1 "),
+        "{}",
+        exchanged.out
+    );
+    let in_order = by_position(format!(
+        "{}\nA,2,1,3,10,1000,300,75,,20000000,20000\n",
+        HEADER.replace("b,h", "h,b")
+    ));
+    assert_eq!(in_order.out, as_typed.out);
+}
+
+#[test]
+fn any_order_gives_the_same() {
+    let sheet = [HEADER, ROW_A, ROW_B, ROW_E].join("\n");
+    assert_eq!(table(turned(&sheet)).out, table(&sheet).out);
+    let russian = "Влажность, %;Марка;М, Н·мм;Режим;Класс прочности;Высота h, мм;Ширина b, мм;Q (Н);Вид;Коэффициент ‰\n\
+        10;A;20000000;3;1;300;75;20000;2;1000\n";
+    assert_eq!(
+        table(russian).out,
+        table(format!("{HEADER}\n{ROW_A}\n")).out
+    );
+}
+
+#[test]
+fn a_heading_that_is_not_known_stops_the_sheet() {
+    let content = format!("{}\n{ROW_A}\n", HEADER.replace(",b,h,", ",Breite,h,"));
+    let message = stopped(&content, &[]);
+    for part in [
+        "line 1, the header: ",
+        "column 7, \"Breite\": not a known heading",
+        "--skip HEADING",
+        "\n       6  b, width, ширина",
+        "\n      22  km",
+        "verdict, check",
+    ] {
+        assert!(message.contains(part), "{part} in {message}");
+    }
+    let two = content.replace("Breite,h,", "Breite,hight,");
+    assert!(stopped(&two, &["--csv"]).contains("column 8, \"hight\": not a known heading"));
+    assert!(stopped(&two, &[]).contains("Breite"));
+    assert_eq!(
+        by_position(&two).out,
+        table(format!("{HEADER}\n{ROW_A}\n")).out
+    );
+}
+
+#[test]
+fn a_heading_that_stands_twice_stops_the_sheet() {
+    for (first, second) in [
+        ("b", "b"),
+        ("b", "width b mm"),
+        ("B", "Ширина"),
+        ("member", "имя"),
+    ] {
+        let content = format!("kind,grade,{first},h,{second}\n2,1,75,300,75\n");
+        let message = stopped(&content, &[]);
+        assert!(
+            message.contains(&format!("column 5, \"{second}\": ")),
+            "{message}"
+        );
+        assert!(
+            message.contains(&format!("headed twice, by column 3, \"{first}\", too")),
+            "{message}"
+        );
+        assert!(message.contains("\n      22  km"), "{message}");
+    }
+}
+
+#[test]
+fn a_known_name_with_another_unit_stops_the_sheet() {
+    for (heading, message) in [
+        ("N kN", "axial force N has to be in N\n"),
+        ("\"M, kN·m\"", "moment M has to be in N·mm\n"),
+        ("b cm", "width b has to be in mm\n"),
+        ("Q (кН)", "shear force Q has to be in N\n"),
+        ("grade mm", "grade has no unit\n"),
+    ] {
+        let message = format!("\": {message}");
+        let content = format!("member,kind,{heading}\nA,2,20\n");
+        assert!(stopped(&content, &[]).contains(&message), "{heading}");
+        // Also where no other heading is known.
+        let content = format!("{heading},Lh m\n20,3\n");
+        assert!(stopped(&content, &[]).contains(&message), "{heading}");
+    }
+}
+
+#[test]
+fn a_line_of_units_below_the_header_is_held_against_the_cells() {
+    let header = "member,kind,grade,regime,moisture,factor,b,h,M,Q";
+    let with_units =
+        |units: &str| format!("{header}\n{units}\nA,2,1,3,10,1000,75,300,20000000,20000\n");
+    for (units, message) in [
+        (
+            ",,,,%,‰,мм,мм,кН·м,кН",
+            "line 2, column 9, \"кН·м\": moment M has to be in N·mm\n",
+        ),
+        (
+            ",,,,,,mm,cm,,",
+            "line 2, column 8, \"cm\": height h has to be in mm\n",
+        ),
+    ] {
+        let message_given = stopped(&with_units(units), &[]);
+        assert!(message_given.ends_with(message), "{message_given}");
+    }
+    for rubbish in [
+        ",,,,%,‰,мм,мм,Н·мм,Н",
+        "kN,x,,,,,,,,",
+        "B,–,-,,–,–,–,–,–,–",
+        "A,2,1,3,10,1000,75,300,kN,20000",
+    ] {
+        let run = table(with_units(rubbish));
+        assert_eq!(
+            run.summary(),
+            "2 rows: 1 passed, 0 failed, 1 refused",
+            "{rubbish}"
+        );
+    }
+}
+
+#[test]
+fn a_header_with_a_number_in_it_stops_the_sheet() {
+    let header = HEADER.replace("row", "16").replace("b,h", "h,b");
+    let content = format!("title\n{header}\n{ROW_A}\n");
+    let message = stopped(&content, &[]);
+    assert!(message.contains("line 2, \"member,kind,"), "{message}");
+    assert!(message.ends_with(" looks like a header, but a number is among its headings\n"));
+    assert_eq!(
+        by_position(&content).summary(),
+        "3 rows: 1 passed, 0 failed, 2 refused"
+    );
+}
+
+#[test]
+fn columns_of_the_office_are_passed_over() {
+    let content = format!(
+        "Remarks,{HEADER},drawing  No.\n\"5\",{},D-1\n,{ROW_E},7\n",
+        to_width(ROW_A)
+    );
+    let plain = table(format!("{HEADER}\n{ROW_A}\n{ROW_E}\n"));
+    let skip = ["--skip", "REMARKS ", "--skip", "Drawing no."];
+    assert_eq!(Scratch::new(content.as_bytes()).run(&skip).out, plain.out);
+    let message = stopped(&content, &skip[..2]);
+    assert!(message.contains("column 25, \"drawing  No.\": not a known heading"));
+    assert!(!message.contains("Remarks"));
+    let absent = stopped(&content, &[&skip[..], &["--skip", "remark"]].concat());
+    assert!(
+        absent.contains("--skip \"remark\": no column is headed so"),
+        "{absent}"
+    );
+    let unheaded = stopped(ROW_A, &["--skip", "remarks"]);
+    assert!(
+        unheaded.contains("--skip \"remarks\": there is no header"),
+        "{unheaded}"
+    );
+    // A known heading of another column's is passed over too, so that one of two can be chosen.
+    let both = format!("width,{HEADER}\n500,{ROW_A}\n");
+    assert!(stopped(&both, &[]).contains("headed twice"));
+    assert!(Scratch::new(both.as_bytes())
+        .run(&["--skip", "Width"])
+        .line("A ")
+        .contains("75 × 300"));
+}
+
+/// A row with blank cells to the last.
+fn to_width(row: &str) -> String {
+    let missing = HEADER.split(',').count() - row.split(',').count();
+    row.to_owned() + &",".repeat(missing)
+}
+
+#[test]
+fn cells_without_a_column_are_blank_and_columns_without_a_heading_stay_empty() {
+    let content = "name,kind,grade,,regime,moisture,factor,b,h,Q\n\
+        A,2,1,,3,10,1000,75,300,20000\n\
+        B,2,1,x,3,10,1000,75,300,20000\n\
+        C,2,1,,3,10,1000,75,300,20000,,20000000\n";
+    let run = table(content);
+    for (member, reason) in [
+        ("A ", "cell 9 moment M: blank, but kind 2 needs it"),
+        ("B ", "column 4: \"x\" stands below no heading"),
+        ("C ", "column 12: \"20000000\" stands below no heading"),
+    ] {
+        assert!(run.line(member).ends_with(reason), "{}", run.out);
+    }
+}
+
+#[test]
+fn a_header_below_rows_stops_the_sheet() {
+    let rows = format!("{ROW_A}\n").repeat(40);
+    let exchanged = HEADER.replace("b,h", "h,b");
+    for (above, header, in_order) in [
+        (
+            HEADER,
+            exchanged.as_str(),
+            "42 rows: 41 passed, 0 failed, 1 refused",
+        ),
+        ("x", HEADER, "43 rows: 41 passed, 0 failed, 2 refused"),
+    ] {
+        let content = format!("{above}\n{rows}{header}\n{ROW_A}\n");
+        let stopped = table(&content);
+        assert_eq!(stopped.code, 2);
+        let message = "line 42 is a header, but rows stand above it";
+        assert!(stopped.err.contains(message), "{}", stopped.err);
+        assert_eq!(by_position(&content).summary(), in_order);
+    }
+    let repeated = table(format!("{HEADER},,\n{rows}{HEADER}\n{ROW_A}\n"));
+    assert_eq!(
+        repeated.summary(),
+        "42 rows: 41 passed, 0 failed, 1 refused"
+    );
+}
+
+#[test]
+fn the_example_in_order_is_the_example_by_its_headings() {
+    let sheet = hall_roof();
+    assert_eq!(by_position(&sheet).out, table(&sheet).out);
+    for kind in ["Kind", "Вид", "kind of member"] {
+        let unnamed = format!("{kind},grade,regime,remark\n{}\n", &ROW_A[2..]);
+        assert!(by_position(unnamed).line("line 2 ").contains("69.1"));
+    }
+}
