@@ -1,11 +1,14 @@
 //! The sheet once more, with the answers in columns of their own.
 use crate::columns::{Column, Columns};
+use crate::encoding::Encoding;
 use crate::fields::{self, Fields};
+use crate::formulas::kept_as_text;
 use crate::headings::Heading;
-use crate::lines::BYTE_ORDER_MARK;
 use crate::opening::Opening;
-use crate::row::{Outcome, SheetRow};
+use crate::row::{Outcome, Refused, SheetRow};
+use crate::text::visible;
 use crate::{words, Report};
+use lvl_addin::answer::Verdict;
 use std::borrow::Cow;
 use std::io::{self, Write};
 
@@ -19,13 +22,23 @@ pub const HEADINGS: [&str; 6] = [
     "refused cell",
 ];
 
+/// How the lines go out.
+#[derive(Clone, Copy)]
+pub enum Lettering {
+    /// As the sheet came in.
+    Encoded(Encoding),
+    /// For a terminal: UTF-8, and nothing that it would obey or hide.
+    Visible,
+}
+
 pub struct AnswerColumns<W> {
     output: W,
+    lettering: Lettering,
 }
 
 impl<W: Write> AnswerColumns<W> {
-    pub fn new(output: W) -> AnswerColumns<W> {
-        AnswerColumns { output }
+    pub fn new(output: W, lettering: Lettering) -> AnswerColumns<W> {
+        AnswerColumns { output, lettering }
     }
 
     /// The fields, the answers in the columns that they have already or else in new ones, and what stood further right.
@@ -44,34 +57,62 @@ impl<W: Write> AnswerColumns<W> {
                 None => fields.push(answer),
             }
         }
-        for (i, field) in fields.into_iter().chain(extra).enumerate() {
-            if i > 0 {
-                self.output.write_all(&[columns.separator])?;
-            }
-            fields::write(&mut self.output, &field, columns.separator)?;
-        }
-        self.output.write_all(b"\n")
+        self.write_fields(fields.into_iter().chain(extra), columns.separator)
     }
 
-    fn write_as_it_stood(&mut self, line: &[u8]) -> io::Result<()> {
-        self.output.write_all(line)?;
-        self.output.write_all(b"\n")
+    /// A line that is no row. Its own quotes stay, unless a field of it has to be kept from being a formula.
+    fn write_as_it_stood(&mut self, line: &[u8], separator: u8) -> io::Result<()> {
+        let fields = Fields::of(line, separator);
+        let as_text = |field| kept_as_text(field, separator);
+        if fields.clone().eq(fields.clone().map(as_text)) {
+            return self.write_line(line);
+        }
+        self.write_fields(fields, separator)
+    }
+
+    fn write_fields<'a>(
+        &mut self,
+        fields: impl Iterator<Item = Cow<'a, [u8]>>,
+        separator: u8,
+    ) -> io::Result<()> {
+        let mut line = Vec::new();
+        for (i, field) in fields.enumerate() {
+            if i > 0 {
+                line.push(separator);
+            }
+            fields::append(&mut line, &kept_as_text(field, separator), separator);
+        }
+        self.write_line(&line)
+    }
+
+    fn write_line(&mut self, line: &[u8]) -> io::Result<()> {
+        match self.lettering {
+            Lettering::Encoded(encoding) => {
+                self.output.write_all(&encoding.encoded(line))?;
+                self.output.write_all(&encoding.encoded(b"\n"))
+            }
+            Lettering::Visible => {
+                let text = String::from_utf8_lossy(line);
+                let text: String = text.chars().map(visible_but_tab).collect();
+                writeln!(self.output, "{text}")
+            }
+        }
     }
 }
 
 impl<W: Write> Report for AnswerColumns<W> {
     /// A sheet without a header gets one.
     fn begin(&mut self, opening: &Opening) -> io::Result<()> {
-        if opening.is_marked() {
-            self.output.write_all(BYTE_ORDER_MARK)?;
-        }
-        for line in &opening.above {
-            self.write_as_it_stood(&line.text)?;
+        if let Lettering::Encoded(encoding) = self.lettering {
+            self.output.write_all(encoding.mark())?;
         }
         let columns = &opening.columns;
+        for line in &opening.above {
+            self.write_as_it_stood(line.text, columns.separator)?;
+        }
         match &opening.header {
             Some(header) => {
-                let (own, extra) = columns.split(&header.text);
+                let (own, extra) = columns.split(header.text);
                 let answers = answer_headings(columns, &own);
                 self.write(columns, own, answers, extra)
             }
@@ -86,20 +127,30 @@ impl<W: Write> Report for AnswerColumns<W> {
     }
 
     fn blank(&mut self, line: &[u8]) -> io::Result<()> {
-        self.write_as_it_stood(line)
+        self.write_line(line)
     }
 
-    fn row(&mut self, row: &SheetRow, outcome: &Outcome) -> io::Result<()> {
+    fn row(&mut self, row: &SheetRow) -> io::Result<Outcome> {
+        let judged = row.judged();
         self.write(
             row.columns,
             row.fields.clone(),
-            answers(outcome),
+            answers(judged),
             row.extra.clone(),
-        )
+        )?;
+        Ok(Outcome::of_judged(judged))
     }
 
     fn end(&mut self) -> io::Result<()> {
         self.output.flush()
+    }
+}
+
+/// A tab parts columns.
+fn visible_but_tab(character: char) -> char {
+    match character {
+        '\t' => '\t',
+        character => visible(character),
     }
 }
 
@@ -123,10 +174,10 @@ fn heading(column: Column) -> &'static str {
     }
 }
 
-fn answers(outcome: &Outcome) -> [String; HEADINGS.len()] {
+fn answers(judged: Result<Verdict, Refused>) -> [String; HEADINGS.len()] {
     let none = String::new;
-    match outcome {
-        Outcome::Judged(verdict) => [
+    match judged {
+        Ok(verdict) => [
             if verdict.passes { "pass" } else { "fail" }.to_owned(),
             verdict.check.to_string(),
             verdict.utilisation.to_string(),
@@ -134,21 +185,12 @@ fn answers(outcome: &Outcome) -> [String; HEADINGS.len()] {
             none(),
             none(),
         ],
-        Outcome::Refused(refusal) => [
-            "refused".to_owned(),
-            none(),
-            none(),
-            none(),
-            refusal.number.to_string(),
-            refusal.cell.to_string(),
-        ],
-        Outcome::ExtraColumn => [
-            "refused".to_owned(),
-            none(),
-            none(),
-            none(),
-            "extra column".to_owned(),
-            none(),
-        ],
+        Err(refused) => {
+            let (refusal, cell) = match refused {
+                Refused::ByAddin(refusal) => (refusal.number.to_string(), refusal.cell.to_string()),
+                Refused::ExtraColumn => ("extra column".to_owned(), none()),
+            };
+            ["refused".to_owned(), none(), none(), none(), refusal, cell]
+        }
     }
 }

@@ -98,6 +98,12 @@ impl Columns {
         self.columns.iter().copied()
     }
 
+    /// Whether the column at this place, from 0, holds a cell.
+    pub fn is_cell(&self, place: usize) -> bool {
+        let column = self.columns.get(place);
+        matches!(column, Some(Column::Holds(Heading::Cell(_))))
+    }
+
     /// The place of the column that holds this, from 0.
     pub fn place_of(&self, heading: Heading) -> Option<usize> {
         self.iter()

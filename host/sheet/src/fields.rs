@@ -1,8 +1,5 @@
 //! The fields of a line, and a field as it is written.
-//!
-//! A line is a row: quotes do not reach across lines, so that one quote too few spoils its own row and no other.
 use std::borrow::Cow;
-use std::io::{self, Write};
 
 /// The bytes that may separate fields, the likelier first where a line has as many of one as of another.
 pub const SEPARATORS: [u8; 3] = [b'\t', b';', b','];
@@ -85,18 +82,18 @@ pub fn is_blank(line: &[u8]) -> bool {
         .all(|byte| byte.is_ascii_whitespace() || SEPARATORS.contains(byte))
 }
 
-/// Writes a field, in quotes where its content asks for them.
-pub fn write(output: &mut impl Write, field: &[u8], separator: u8) -> io::Result<()> {
+/// Appends a field, in quotes where its content asks for them.
+pub fn append(line: &mut Vec<u8>, field: &[u8], separator: u8) {
     let special = |byte: &u8| *byte == separator || matches!(byte, b'"' | b'\r' | b'\n');
     if !field.iter().any(special) {
-        return output.write_all(field);
+        return line.extend_from_slice(field);
     }
-    output.write_all(b"\"")?;
+    line.push(b'"');
     for (i, part) in field.split(|&byte| byte == b'"').enumerate() {
         if i > 0 {
-            output.write_all(b"\"\"")?;
+            line.extend_from_slice(b"\"\"");
         }
-        output.write_all(part)?;
+        line.extend_from_slice(part);
     }
-    output.write_all(b"\"")
+    line.push(b'"');
 }

@@ -1,6 +1,6 @@
 //! Whether a line is a header.
 use crate::columns::{is_number, Basis, Columns};
-use crate::fields::{Fields, SEPARATORS};
+use crate::fields::Fields;
 use crate::headings::{self, Heading, Meaning};
 use crate::separator;
 use std::collections::HashSet;
@@ -21,9 +21,9 @@ pub struct Found {
     pub known: usize,
 }
 
-/// Reads a line as a header, with the separator that is given or else the one that makes most sense of it.
-pub fn found_in(line: &[u8], separator: Option<u8>) -> Option<Found> {
-    separators(line, separator)
+/// Reads a line as a header, with that of these separators that makes most sense of it.
+pub fn found_in(line: &[u8], separators: &[u8]) -> Option<Found> {
+    likeliest_last(line, separators)
         .into_iter()
         .filter(|separator| is_header(line, *separator))
         .map(|separator| Found {
@@ -34,10 +34,10 @@ pub fn found_in(line: &[u8], separator: Option<u8>) -> Option<Found> {
 }
 
 /// Whether a line would be a header, were it not for a number among its headings.
-pub fn is_spoilt(line: &[u8], separator: Option<u8>) -> bool {
+pub fn is_spoilt(line: &[u8], separators: &[u8]) -> bool {
     line.len() <= LONGEST
-        && separators(line, separator).into_iter().any(|separator| {
-            known_headings(line, separator) >= CERTAIN && has_number(line, separator)
+        && separators.iter().any(|separator| {
+            known_headings(line, *separator) >= CERTAIN && has_number(line, *separator)
         })
 }
 
@@ -81,15 +81,11 @@ fn is_header(line: &[u8], separator: u8) -> bool {
         && known_headings(line, separator) >= FEWEST_KNOWN
 }
 
-/// The separators to try, the likeliest last.
-fn separators(line: &[u8], given: Option<u8>) -> Vec<u8> {
-    if let Some(given) = given {
-        return vec![given];
-    }
+fn likeliest_last(line: &[u8], separators: &[u8]) -> Vec<u8> {
     let likeliest = separator::most_frequent(line);
-    let mut all = SEPARATORS.to_vec();
-    all.sort_by_key(|separator| *separator == likeliest);
-    all
+    let mut sorted = separators.to_vec();
+    sorted.sort_by_key(|separator| *separator == likeliest);
+    sorted
 }
 
 /// How many different headings a line has that are known, those with another unit among them.

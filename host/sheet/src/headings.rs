@@ -4,6 +4,7 @@
 //! that look alike in the Cyrillic and the Latin alphabet are one: nobody sees in which of them М, а or кс was typed.
 //! Every other sign counts: N+, N* or 2b are not N or b.
 use crate::answer_columns::HEADINGS;
+use crate::text::is_unseen;
 use crate::{heading_names, units, words};
 use std::collections::HashMap;
 use std::sync::LazyLock;
@@ -50,7 +51,7 @@ pub fn read(text: &str) -> Meaning {
     let words = words_of(text);
     if text
         .chars()
-        .all(|letter| letter.is_whitespace() || is_invisible(letter))
+        .all(|letter| letter.is_whitespace() || is_without_width(letter))
     {
         return Meaning::Empty;
     }
@@ -95,9 +96,9 @@ pub fn words_of(text: &str) -> Vec<String> {
         match letter {
             // The second half of a letter that is written in two: й, ё.
             '\u{300}'..='\u{36f}' => {}
-            letter if is_invisible(letter) => {}
             '%' | '‰' => words.extend([letter.to_string(), String::new()]),
             letter if parts_words(letter) => words.push(String::new()),
+            letter if is_without_width(letter) => {}
             letter => words.last_mut().expect("one at least").push(plain(letter)),
         }
     }
@@ -106,8 +107,8 @@ pub fn words_of(text: &str) -> Vec<String> {
 }
 
 /// A soft hyphen, a space of no width, a byte order mark.
-fn is_invisible(letter: char) -> bool {
-    matches!(letter, '\u{ad}' | '\u{200b}' | '\u{feff}')
+fn is_without_width(letter: char) -> bool {
+    is_unseen(letter) && !letter.is_control()
 }
 
 fn parts_words(letter: char) -> bool {

@@ -1,80 +1,180 @@
-//! The lines of a file, whatever ends them: line feed, carriage return or both.
-use std::io::{self, BufRead, ErrorKind};
+//! The lines of a text, whatever ends them: line feed, carriage return or both.
+//!
+//! A quoted field may hold line breaks; its line then reaches over several. A quote that is not closed in the way of RFC 4180,
+//! that stands where a number has to, or that would swallow a member before it is closed, holds none: it spoils its own line
+//! and no other.
+use crate::columns::{is_number, Columns};
+use crate::fields::{self, Fields};
+use std::slice;
 
-/// Tells programs that a file is UTF-8.
-pub const BYTE_ORDER_MARK: &[u8] = b"\xEF\xBB\xBF";
+/// A quote that holds a line with so many numbers was to be closed before them.
+const NUMBERS_OF_A_MEMBER: usize = 3;
 
+/// What is known of a line's fields before it is read.
+#[derive(Clone, Copy)]
+pub enum Shape<'a> {
+    /// They are separated by one of these.
+    Separated(&'a [u8]),
+    /// They stand in these columns.
+    In(&'a Columns),
+}
+
+#[derive(Clone, Copy, Debug)]
 pub struct Line<'a> {
-    /// From 1.
+    /// Of its first line, from 1.
     pub number: u64,
-    /// Whether a byte order mark stood before the text.
-    pub marked: bool,
     /// Without the line's end.
     pub text: &'a [u8],
 }
 
-pub struct Lines<R> {
-    input: R,
-    line: Vec<u8>,
-    number: u64,
-    after_return: bool,
+/// The lines that are still to come.
+#[derive(Clone, Copy, Debug)]
+pub struct Lines<'a> {
+    rest: &'a [u8],
+    /// How many line ends stand before it.
+    ends: u64,
 }
 
-impl<R: BufRead> Lines<R> {
-    pub fn new(input: R) -> Lines<R> {
+impl<'a> Lines<'a> {
+    pub fn of(text: &'a [u8]) -> Lines<'a> {
         Lines {
-            input,
-            line: Vec::new(),
-            number: 0,
-            after_return: false,
+            rest: text,
+            ends: 0,
         }
     }
 
     /// The next line, if there is one.
-    pub fn next_line(&mut self) -> io::Result<Option<Line<'_>>> {
-        self.line.clear();
-        if !self.read_line()? {
-            return Ok(None);
+    pub fn next_line(&mut self, shape: Shape) -> Option<Line<'a>> {
+        if self.rest.is_empty() {
+            return None;
         }
-        self.number += 1;
-        let after_mark = self
-            .line
-            .strip_prefix(BYTE_ORDER_MARK)
-            .filter(|_| self.number == 1);
-        Ok(Some(Line {
-            number: self.number,
-            marked: after_mark.is_some(),
-            text: after_mark.unwrap_or(&self.line),
-        }))
+        let mut end = end_of_fields(self.rest, shape);
+        let first_end = end_of_line(self.rest, 0);
+        // A quote of the line below may seem to close one of this, and all else of that line to follow.
+        if end > first_end && !shape.has_room_for(&self.rest[..end]) {
+            end = first_end;
+        }
+        let (text, rest) = self.rest.split_at(end);
+        let line = Line {
+            number: self.ends + 1,
+            text,
+        };
+        self.ends += ends_in(text) + 1;
+        self.rest = after_end(rest);
+        Some(line)
+    }
+}
+
+impl Shape<'_> {
+    fn separators(&self) -> &[u8] {
+        match self {
+            Shape::Separated(separators) => separators,
+            Shape::In(columns) => slice::from_ref(&columns.separator),
+        }
     }
 
-    /// Reads up to the next line end; false where nothing is left.
-    fn read_line(&mut self) -> io::Result<bool> {
-        loop {
-            let bytes = match self.input.fill_buf() {
-                Ok(bytes) => bytes,
-                Err(error) if error.kind() == ErrorKind::Interrupted => continue,
-                Err(error) => return Err(error),
-            };
-            if bytes.is_empty() {
-                return Ok(!self.line.is_empty());
-            }
-            if std::mem::take(&mut self.after_return) && bytes[0] == b'\n' {
-                self.input.consume(1);
-                continue;
-            }
-            let end = bytes
-                .iter()
-                .position(|&byte| byte == b'\n' || byte == b'\r');
-            self.line
-                .extend_from_slice(&bytes[..end.unwrap_or(bytes.len())]);
-            let ended_by = end.map(|at| bytes[at]);
-            let taken = end.map_or(bytes.len(), |at| at + 1);
-            self.input.consume(taken);
-            if let Some(byte) = ended_by {
-                self.after_return = byte == b'\r';
-                return Ok(true);
-            }
+    /// Whether the field at this place may hold line breaks: that of a cell may not.
+    fn is_text(&self, place: usize) -> bool {
+        match self {
+            Shape::Separated(_) => true,
+            Shape::In(columns) => !columns.is_cell(place),
         }
     }
+
+    /// Whether no field further right than the columns is filled.
+    fn has_room_for(&self, line: &[u8]) -> bool {
+        match self {
+            Shape::Separated(_) => true,
+            Shape::In(columns) => Fields::of(line, columns.separator)
+                .skip(columns.width())
+                .all(|field| fields::is_empty(&field)),
+        }
+    }
+}
+
+/// Where the line ends that begins here, with the line breaks that its quoted fields hold.
+fn end_of_fields(text: &[u8], shape: Shape) -> usize {
+    let separators = shape.separators();
+    let mut end = end_of_line(text, 0);
+    let mut field = 0;
+    for place in 0.. {
+        let mut after = field;
+        if text[field..end].starts_with(b"\"") {
+            let inside = field + 1;
+            match closing_quote(text, inside) {
+                Some(close) if close < end => after = close + 1,
+                Some(close)
+                    if shape.is_text(place) && is_one_field(text, inside, close, separators) =>
+                {
+                    after = close + 1;
+                    end = end_of_line(text, after);
+                }
+                _ => return end,
+            }
+        }
+        let separator = text[after..end]
+            .iter()
+            .position(|byte| separators.contains(byte));
+        match separator {
+            Some(at) => field = after + at + 1,
+            None => break,
+        }
+    }
+    end
+}
+
+/// Where the next quote stands that is not doubled.
+fn closing_quote(text: &[u8], inside: usize) -> Option<usize> {
+    let mut from = inside;
+    loop {
+        let at = from + text[from..].iter().position(|byte| *byte == b'"')?;
+        if text.get(at + 1) != Some(&b'"') {
+            return Some(at);
+        }
+        from = at + 2;
+    }
+}
+
+/// Whether what stands between two quotes of different lines is one field.
+fn is_one_field(text: &[u8], inside: usize, close: usize, separators: &[u8]) -> bool {
+    let is_closed = match text.get(close + 1) {
+        Some(next) => is_end(next) || separators.contains(next),
+        None => true,
+    };
+    is_closed
+        && !text[inside..close]
+            .split(is_end)
+            .any(|line| looks_like_a_member(line, separators))
+}
+
+fn looks_like_a_member(line: &[u8], separators: &[u8]) -> bool {
+    separators.iter().any(|separator| {
+        let fields = line.split(|byte| byte == separator);
+        let numbers = fields.filter(|field| is_number(field, *separator));
+        numbers.take(NUMBERS_OF_A_MEMBER).count() == NUMBERS_OF_A_MEMBER
+    })
+}
+
+fn is_end(byte: &u8) -> bool {
+    matches!(byte, b'\n' | b'\r')
+}
+
+fn end_of_line(text: &[u8], from: usize) -> usize {
+    let end = text[from..].iter().position(is_end);
+    end.map_or(text.len(), |at| from + at)
+}
+
+/// What follows the line end that a text begins with, if it does.
+fn after_end(text: &[u8]) -> &[u8] {
+    match text {
+        [b'\r', b'\n', rest @ ..] | [b'\r' | b'\n', rest @ ..] => rest,
+        _ => text,
+    }
+}
+
+fn ends_in(text: &[u8]) -> u64 {
+    let feeds = text.iter().filter(|byte| **byte == b'\n').count();
+    let returns = text.iter().filter(|byte| **byte == b'\r').count();
+    let both = text.windows(2).filter(|pair| pair == b"\r\n").count();
+    (feeds + returns - both) as u64
 }

@@ -1,13 +1,16 @@
-//! `sheet FILE.csv`: the verdicts on a sheet of members, as a table or as columns beside the input.
-use lvl_sheet::answer_columns::AnswerColumns;
-use lvl_sheet::columns::ColumnOptions;
-use lvl_sheet::options::{self, Command, Form, Source};
+//! `sheet FILE.csv`: the verdicts on a sheet of members, as a table or as columns beside the input, or its rows packed.
+use lvl_sheet::answer_columns::{AnswerColumns, Lettering};
+use lvl_sheet::encoding::Encoding;
+use lvl_sheet::input;
+use lvl_sheet::options::{self, Command, Destination, Form, Request};
+use lvl_sheet::output::{self, NewFile};
+use lvl_sheet::packed_rows::PackedRows;
 use lvl_sheet::progress::Progress;
 use lvl_sheet::table::Table;
 use lvl_sheet::tally::Tally;
-use lvl_sheet::{judge, Stop};
-use std::fs::File;
-use std::io::{self, BufRead, BufReader, BufWriter, ErrorKind, IsTerminal, Write};
+use lvl_sheet::text::shown_path;
+use lvl_sheet::{go_through, notes, Stop};
+use std::io::{self, ErrorKind, IsTerminal, Write};
 use std::process::ExitCode;
 
 const ALL_PASS: u8 = 0;
@@ -17,14 +20,22 @@ const NOT_JUDGED: u8 = 2;
 fn main() -> ExitCode {
     let code = match options::read(std::env::args_os().skip(1)) {
         Ok(Command::Help) => help(),
-        Ok(Command::Judge {
-            source,
-            form,
-            columns,
-        }) => judge_source(&source, form, &columns),
+        Ok(Command::GoThrough(request)) => match answered(&request) {
+            Ok(tally) if tally.is_clean() => ALL_PASS,
+            Ok(_) => SOME_DO_NOT,
+            Err(Failure::Said(message)) => complain(&message),
+            Err(Failure::ReaderLeft) => NOT_JUDGED,
+        },
         Err(message) => complain(&message),
     };
     ExitCode::from(code)
+}
+
+/// Why there is no answer, or none to its end.
+enum Failure {
+    Said(String),
+    /// Whoever read the table has seen enough.
+    ReaderLeft,
 }
 
 fn help() -> u8 {
@@ -34,64 +45,95 @@ fn help() -> u8 {
     }
 }
 
-fn judge_source(source: &Source, form: Form, columns: &ColumnOptions) -> u8 {
-    let (name, input): (String, Box<dyn BufRead>) = match source {
-        Source::StandardInput => ("standard input".to_owned(), Box::new(io::stdin().lock())),
-        Source::File(path) => {
-            let name = path.display().to_string();
-            match File::open(path) {
-                Ok(file) => (name, Box::new(BufReader::with_capacity(1 << 16, file))),
-                Err(error) => return complain(&format!("{name}: {error}")),
-            }
+/// Reads the sheet, answers it, and shows the count.
+fn answered(request: &Request) -> Result<Tally, Failure> {
+    let name = request.source.name();
+    let of_sheet = |problem: String| Failure::Said(format!("{name}: {problem}"));
+    let is_shared = request.destination == Destination::StandardOutput;
+    let bytes = input::read(&request.source, is_shared).map_err(of_sheet)?;
+    let encoding = Encoding::of(&bytes);
+    notes::show(encoding.note().as_slice());
+    let text = encoding.decoded(&bytes);
+    match &request.destination {
+        Destination::StandardOutput => {
+            let lettering = match io::stdout().is_terminal() {
+                true => Lettering::Visible,
+                false => Lettering::Encoded(encoding),
+            };
+            let mut output = output::standard_output();
+            let tally = reported(&text, request, &mut output, lettering);
+            let tally = tally.map_err(|stop| failure(stop, &name))?;
+            output.flush().map_err(lost)?;
+            Ok(tally)
         }
-    };
-    match written(input, form, columns) {
-        Ok(tally) if tally.rows == 0 => complain(&format!("{name}: there are no rows")),
-        Ok(tally) if tally.all_passed() => ALL_PASS,
-        Ok(_) => SOME_DO_NOT,
-        Err(Stop::Read(error)) => complain(&format!("{name}: {error}")),
-        Err(Stop::Columns(message)) => complain(&format!("{name}: {message}")),
-        Err(Stop::Utf16) => complain(&format!(
-            "{name}: the text is UTF-16: save it as CSV in UTF-8"
-        )),
-        // Whoever read the table has seen enough.
-        Err(Stop::Write(error)) if error.kind() == ErrorKind::BrokenPipe => NOT_JUDGED,
-        Err(Stop::Write(error)) => complain(&format!("the answers cannot be written: {error}")),
+        Destination::File(path) => {
+            let path_name = shown_path(path);
+            let of_file = |error| Failure::Said(format!("{path_name} cannot be written: {error}"));
+            let mut output = NewFile::create(path).map_err(of_file)?;
+            let lettering = Lettering::Encoded(encoding);
+            let tally = match reported(&text, request, &mut output, lettering) {
+                Err(Stop::Write(error)) => return Err(of_file(error)),
+                tally => tally.map_err(|stop| failure(stop, &name))?,
+            };
+            output.replace().map_err(of_file)?;
+            Ok(tally)
+        }
     }
 }
 
-/// Writes the answers in the form asked for, then the summary.
-fn written(input: Box<dyn BufRead>, form: Form, columns: &ColumnOptions) -> Result<Tally, Stop> {
-    let mut output = BufWriter::with_capacity(1 << 16, io::stdout().lock());
+/// Writes the answers in the form asked for, and the count: below the table, otherwise to the error output.
+fn reported(
+    text: &[u8],
+    request: &Request,
+    output: &mut impl Write,
+    lettering: Lettering,
+) -> Result<Tally, Stop> {
+    let columns = &request.columns;
     // Rows that run over a terminal are progress enough.
-    let mut progress = Progress::new(io::stderr().is_terminal() && !io::stdout().is_terminal());
-    let judged = match form {
-        Form::Table => judge(input, columns, &mut Table::new(&mut output), &mut progress),
-        Form::Csv => judge(
-            input,
+    let is_watched = io::stderr().is_terminal() && !io::stdout().is_terminal();
+    let mut progress = Progress::new(is_watched);
+    let gone_through = match request.form {
+        Form::Table => go_through(text, columns, &mut Table::new(&mut *output), &mut progress),
+        Form::Csv => {
+            let mut report = AnswerColumns::new(&mut *output, lettering);
+            go_through(text, columns, &mut report, &mut progress)
+        }
+        Form::Packed => go_through(
+            text,
             columns,
-            &mut AnswerColumns::new(&mut output),
+            &mut PackedRows::new(&mut *output),
             &mut progress,
         ),
     };
     progress.clear();
-    let tally = judged?;
-    if tally.rows > 0 {
-        match form {
-            Form::Table => writeln!(output, "\n{tally}").map_err(Stop::Write)?,
-            Form::Csv => say(&tally.to_string()),
-        }
+    let tally = gone_through?;
+    if tally.rows == 0 {
+        return Err(Stop::NoRows);
     }
-    output.flush().map_err(Stop::Write)?;
+    match request.form {
+        Form::Table => writeln!(output, "\n{}", tally.judged()).map_err(Stop::Write)?,
+        Form::Csv => notes::say(&tally.judged()),
+        Form::Packed => notes::say(&tally.packed()),
+    }
     Ok(tally)
 }
 
-fn complain(message: &str) -> u8 {
-    say(&format!("sheet: {message}"));
-    NOT_JUDGED
+fn failure(stop: Stop, name: &str) -> Failure {
+    match stop {
+        Stop::NoRows => Failure::Said(format!("{name}: there are no rows")),
+        Stop::Columns(message) => Failure::Said(format!("{name}: {message}")),
+        Stop::Write(error) => lost(error),
+    }
 }
 
-/// To the error output, wherever that leads.
-fn say(message: &str) {
-    let _ = writeln!(io::stderr(), "{message}");
+fn lost(error: io::Error) -> Failure {
+    match error.kind() {
+        ErrorKind::BrokenPipe => Failure::ReaderLeft,
+        _ => Failure::Said(format!("the answers cannot be written: {error}")),
+    }
+}
+
+fn complain(message: &str) -> u8 {
+    notes::say(&format!("sheet: {message}"));
+    NOT_JUDGED
 }

@@ -1,7 +1,7 @@
 //! The first lines of a sheet: a hint at its separator, title lines, its header.
 use crate::columns::{is_number, Basis, ColumnOptions, Columns};
-use crate::fields::{self, Fields};
-use crate::lines::Line;
+use crate::fields::{self, Fields, SEPARATORS};
+use crate::lines::{Line, Lines, Shape};
 use crate::separator;
 use crate::text::shown;
 use crate::{headed_columns, header};
@@ -9,124 +9,137 @@ use crate::{headed_columns, header};
 /// Among so many lines with content the header is looked for.
 pub const LOOKED_AT: usize = 30;
 
+/// So many lines are read ahead at most, blank ones with them.
+const READ_AHEAD: usize = 10_000;
+
 /// A line above the header with so many numbers may be a member.
 const NUMBERS_OF_A_MEMBER: usize = 2;
 
 /// How much of a line is quoted.
 const QUOTED: usize = 60;
 
-/// A line that was read ahead.
-pub struct HeldLine {
-    pub number: u64,
-    pub marked: bool,
-    pub text: Vec<u8>,
+/// A line that was read ahead, and the lines from it and after it.
+#[derive(Clone, Copy)]
+struct Ahead<'a> {
+    line: Line<'a>,
+    from: Lines<'a>,
+    after: Lines<'a>,
 }
 
-impl HeldLine {
-    pub fn of(line: &Line) -> HeldLine {
-        HeldLine {
-            number: line.number,
-            marked: line.marked,
-            text: line.text.to_vec(),
-        }
-    }
-
-    pub fn line(&self) -> Line<'_> {
-        Line {
-            number: self.number,
-            marked: self.marked,
-            text: &self.text,
-        }
-    }
-
+impl Ahead<'_> {
     fn is_blank(&self) -> bool {
-        fields::is_blank(&self.text)
-    }
-
-    fn quoted(&self) -> String {
-        let text = shown(&String::from_utf8_lossy(&self.text), QUOTED);
-        format!("line {}, \"{text}\",", self.number)
+        fields::is_blank(self.line.text)
     }
 }
 
-pub struct Opening {
+#[derive(Debug)]
+pub struct Opening<'a> {
     pub columns: Columns,
     /// What stands above the header, or above the first row where there is none.
-    pub above: Vec<HeldLine>,
-    pub header: Option<HeldLine>,
-    /// Rows that were read ahead.
-    pub rows: Vec<HeldLine>,
+    pub above: Vec<Line<'a>>,
+    pub header: Option<Line<'a>>,
+    pub rows: Lines<'a>,
     /// What a person should know about how the sheet is read.
     pub notes: Vec<String>,
 }
 
-impl Opening {
-    /// Whether the file begins with a byte order mark.
-    pub fn is_marked(&self) -> bool {
-        let lines = self.above.iter().chain(&self.header).chain(&self.rows);
-        lines.take(1).any(|line| line.marked)
-    }
-
-    /// What the first lines say; an error where the columns cannot be told.
-    pub fn of(lines: Vec<HeldLine>, options: &ColumnOptions) -> Result<Opening, String> {
-        let first = first_filled(&lines, 0);
-        let hint = lines.get(first).map_or(Ok(None), hint_in)?;
-        let start = hint.map_or(0, |_| first + 1);
-        let mut opening = match header_among(&lines[start..], hint) {
-            Some((at, separator)) => below_header(lines, start, start + at, separator, options)?,
-            None => without_header(lines, start, hint, options)?,
+impl<'a> Opening<'a> {
+    /// What the first lines of a text say; nothing where all are blank, an error where the columns cannot be told.
+    pub fn of(text: &'a [u8], options: &ColumnOptions) -> Result<Option<Opening<'a>>, String> {
+        let lines = read_ahead(Lines::of(text), &SEPARATORS);
+        let Some(first) = lines.iter().position(|ahead| !ahead.is_blank()) else {
+            return match lines.len() {
+                READ_AHEAD => Err(format!("the first {READ_AHEAD} lines are blank")),
+                _ => Ok(None),
+            };
         };
-        if hint.is_some() {
-            let note = format!(
-                "{} sets the separator and is passed over",
-                opening.above[first].quoted()
-            );
-            opening.notes.insert(0, note);
-        }
-        Ok(opening)
+        let hint = hint_in(&lines[first].line)?;
+        let Some(separator) = hint else {
+            return below(&[], &lines, &SEPARATORS, options).map(Some);
+        };
+        let rest = read_ahead(lines[first].after, &[separator]);
+        let mut opening = below(&lines[..=first], &rest, &[separator], options)?;
+        let quoted = quoted(&lines[first].line);
+        let note = format!("{quoted} sets the separator and is passed over");
+        opening.notes.insert(0, note);
+        Ok(Some(opening))
     }
 }
 
-fn hint_in(line: &HeldLine) -> Result<Option<u8>, String> {
-    separator::hint(&line.text)
+/// Lines from here on, with enough content among them to find a header.
+fn read_ahead<'a>(mut lines: Lines<'a>, separators: &[u8]) -> Vec<Ahead<'a>> {
+    let mut read = Vec::new();
+    let mut filled = 0;
+    while filled < LOOKED_AT && read.len() < READ_AHEAD {
+        let from = lines;
+        let Some(line) = lines.next_line(Shape::Separated(separators)) else {
+            break;
+        };
+        let ahead = Ahead {
+            line,
+            from,
+            after: lines,
+        };
+        filled += usize::from(!ahead.is_blank());
+        read.push(ahead);
+    }
+    read
+}
+
+fn hint_in(line: &Line) -> Result<Option<u8>, String> {
+    separator::hint(line.text)
         .transpose()
         .map_err(|problem| format!("line {}: {problem}", line.number))
 }
 
-/// The place of the first line with content from this one on; where there is none, that after the last.
-fn first_filled(lines: &[HeldLine], from: usize) -> usize {
-    let blank = lines[from..].iter().take_while(|line| line.is_blank());
-    from + blank.count()
+/// The lines below a hint, or all where there is none, separated by one of these.
+fn below<'a>(
+    hint: &[Ahead<'a>],
+    lines: &[Ahead<'a>],
+    separators: &[u8],
+    options: &ColumnOptions,
+) -> Result<Opening<'a>, String> {
+    let mut opening = match header_among(lines, separators) {
+        Some((at, separator)) => below_header(lines, at, separator, options)?,
+        None => without_header(lines, separators, options)?,
+    };
+    let hint = hint.iter().map(|ahead| ahead.line);
+    opening.above.splice(..0, hint);
+    Ok(opening)
 }
 
 /// The place and separator of the line with the most known headings, the first of them where there are several.
-fn header_among(lines: &[HeldLine], hint: Option<u8>) -> Option<(usize, u8)> {
-    let found = |(at, line): (usize, &HeldLine)| Some((at, header::found_in(&line.text, hint)?));
-    let headers = lines.iter().enumerate().filter_map(found);
+fn header_among(lines: &[Ahead], separators: &[u8]) -> Option<(usize, u8)> {
+    let headers = lines.iter().enumerate().filter_map(|(at, ahead)| {
+        let header = header::found_in(ahead.line.text, separators)?;
+        Some((at, header))
+    });
     let (at, header) = headers.rev().max_by_key(|(_, header)| header.known)?;
     Some((at, header.separator))
 }
 
-fn below_header(
-    mut above: Vec<HeldLine>,
-    start: usize,
+fn below_header<'a>(
+    lines: &[Ahead<'a>],
     at: usize,
     separator: u8,
     options: &ColumnOptions,
-) -> Result<Opening, String> {
-    let rows = above.split_off(at + 1);
-    let header = above.remove(at);
+) -> Result<Opening<'a>, String> {
+    let Ahead {
+        line: header,
+        after: rows,
+        ..
+    } = lines[at];
     let columns = match options.by_position {
-        true => Columns::in_order_below(&header.text, separator, Basis::Asked),
-        false => headed(&header, separator, &rows, options)?,
+        true => Columns::in_order_below(header.text, separator, Basis::Asked),
+        false => headed(&header, separator, rows, options)?,
     };
-    let titles = above[start..].iter().filter(|line| !line.is_blank());
+    let titles = lines[..at].iter().filter(|ahead| !ahead.is_blank());
     let notes = titles
-        .map(|line| pass_over(line, &header, separator))
+        .map(|title| pass_over(&title.line, &header, separator))
         .collect::<Result<_, _>>()?;
     Ok(Opening {
         columns,
-        above,
+        above: lines[..at].iter().map(|ahead| ahead.line).collect(),
         header: Some(header),
         rows,
         notes,
@@ -135,25 +148,26 @@ fn below_header(
 
 /// The columns that a header heads, unless it or a line of units below it is not clear.
 fn headed(
-    header: &HeldLine,
+    header: &Line,
     separator: u8,
-    rows: &[HeldLine],
+    mut rows: Lines,
     options: &ColumnOptions,
 ) -> Result<Columns, String> {
-    let columns = headed_columns::columns(&header.text, separator, &options.skip)
+    let columns = headed_columns::columns(header.text, separator, &options.skip)
         .map_err(|problem| format!("line {}, the header: {problem}", header.number))?;
-    let first = rows.get(first_filled(rows, 0));
+    let mut lines = std::iter::from_fn(|| rows.next_line(Shape::In(&columns)));
+    let first = lines.find(|line| !fields::is_blank(line.text));
     let problem = first.and_then(|row| {
-        let problem = headed_columns::other_unit_in(&row.text, &columns)?;
+        let problem = headed_columns::other_unit_in(row.text, &columns)?;
         Some(format!("line {}, {problem}", row.number))
     });
     problem.map_or(Ok(columns), Err)
 }
 
 /// The note about a title line; an error for one that looks like a member.
-fn pass_over(line: &HeldLine, header: &HeldLine, separator: u8) -> Result<String, String> {
-    let numbers = Fields::of(&line.text, separator).filter(|field| is_number(field, separator));
-    let quoted = line.quoted();
+fn pass_over(line: &Line, header: &Line, separator: u8) -> Result<String, String> {
+    let numbers = Fields::of(line.text, separator).filter(|field| is_number(field, separator));
+    let quoted = quoted(line);
     let number = header.number;
     if numbers.take(NUMBERS_OF_A_MEMBER).count() == NUMBERS_OF_A_MEMBER {
         return Err(format!(
@@ -165,54 +179,61 @@ fn pass_over(line: &HeldLine, header: &HeldLine, separator: u8) -> Result<String
     ))
 }
 
-fn without_header(
-    mut above: Vec<HeldLine>,
-    start: usize,
-    hint: Option<u8>,
+fn without_header<'a>(
+    lines: &[Ahead<'a>],
+    separators: &[u8],
     options: &ColumnOptions,
-) -> Result<Opening, String> {
+) -> Result<Opening<'a>, String> {
     if let Some(heading) = options.skip.first() {
         return Err(format!(
             "--skip \"{}\": there is no header, so no column is headed so",
             shown(heading, QUOTED)
         ));
     }
-    let rows = above.split_off(first_filled(&above, start));
+    let blank = lines.iter().take_while(|ahead| ahead.is_blank()).count();
+    let (above, rows) = lines.split_at(blank);
     if !options.by_position {
-        refuse_spoilt_header(&rows, hint)?;
+        refuse_spoilt_header(rows, separators)?;
     }
-    let first = rows.first().map_or(&[][..], |row| &row.text);
-    let separator = hint.unwrap_or_else(|| separator::most_frequent(first));
-    let (basis, notes) = match options.by_position {
-        true => (Basis::Asked, Vec::new()),
-        false => (
-            Basis::NoHeader,
-            rows.first().map(no_header).into_iter().collect(),
-        ),
+    let first = rows.first();
+    let text = first.map_or(&b""[..], |ahead| ahead.line.text);
+    let separator = match separators {
+        [separator] => *separator,
+        _ => separator::most_frequent(text),
+    };
+    let (basis, note) = match options.by_position {
+        true => (Basis::Asked, None),
+        false => (Basis::NoHeader, first.map(|ahead| no_header(&ahead.line))),
     };
     Ok(Opening {
-        columns: Columns::in_order_from(first, separator, basis),
-        above,
+        columns: Columns::in_order_from(text, separator, basis),
+        above: above.iter().map(|ahead| ahead.line).collect(),
         header: None,
-        rows,
-        notes,
+        rows: first.map_or(Lines::of(b""), |ahead| ahead.from),
+        notes: note.into_iter().collect(),
     })
 }
 
 /// A header with a number in it is no header, but its order may well be another than that of the cells.
-fn refuse_spoilt_header(rows: &[HeldLine], hint: Option<u8>) -> Result<(), String> {
-    match rows.iter().find(|row| header::is_spoilt(&row.text, hint)) {
-        Some(row) => Err(format!(
+fn refuse_spoilt_header(rows: &[Ahead], separators: &[u8]) -> Result<(), String> {
+    let spoilt = |ahead: &&Ahead| header::is_spoilt(ahead.line.text, separators);
+    match rows.iter().find(spoilt) {
+        Some(ahead) => Err(format!(
             "{} looks like a header, but a number is among its headings",
-            row.quoted()
+            quoted(&ahead.line)
         )),
         None => Ok(()),
     }
 }
 
-fn no_header(first: &HeldLine) -> String {
+fn no_header(first: &Line) -> String {
     format!(
         "there is no header: line {} is the first row, and cells are taken in the order of --help",
         first.number
     )
+}
+
+fn quoted(line: &Line) -> String {
+    let text = shown(&String::from_utf8_lossy(line.text), QUOTED);
+    format!("line {}, \"{text}\",", line.number)
 }

@@ -1,23 +1,30 @@
 //! The command line.
-use std::ffi::OsString;
-use std::path::PathBuf;
-
 use crate::columns::ColumnOptions;
+use crate::input::Source;
 use crate::opening::LOOKED_AT;
+use crate::text::shown;
 use crate::{heading_list, words};
 use lvl_addin::row::CELLS;
+use std::ffi::OsString;
+use std::io::{self, IsTerminal};
+use std::path::PathBuf;
 
 pub enum Command {
     Help,
-    Judge {
-        source: Source,
-        form: Form,
-        columns: ColumnOptions,
-    },
+    GoThrough(Request),
 }
 
-pub enum Source {
-    StandardInput,
+/// What is to be made of a sheet.
+pub struct Request {
+    pub source: Source,
+    pub destination: Destination,
+    pub form: Form,
+    pub columns: ColumnOptions,
+}
+
+#[derive(PartialEq, Eq)]
+pub enum Destination {
+    StandardOutput,
     File(PathBuf),
 }
 
@@ -25,51 +32,89 @@ pub enum Source {
 pub enum Form {
     Table,
     Csv,
+    Packed,
 }
 
-const USAGE: &str = "usage: sheet [--csv] [--skip HEADING]... [--by-position] FILE.csv
+const USAGE: &str =
+    "usage: sheet [--csv | --pack] [-o FILE] [--skip HEADING]... [--by-position] FILE.csv
        (- for standard input, --help for more)";
+
+/// How much of an argument is quoted.
+const QUOTED: usize = 60;
 
 /// What the arguments after the program's name ask for, or what is wrong with them.
 pub fn read(mut arguments: impl Iterator<Item = OsString>) -> Result<Command, String> {
-    let mut form = Form::Table;
+    let mut forms = Vec::new();
     let mut columns = ColumnOptions::default();
-    let mut source = None;
+    let mut files = Vec::new();
+    let mut destinations = Vec::new();
+    let mut are_ended = false;
     while let Some(argument) = arguments.next() {
         match argument.to_str() {
+            _ if are_ended => files.push(Source::File(argument.into())),
+            Some("--") => are_ended = true,
             Some("--help" | "-h") => return Ok(Command::Help),
-            Some("--csv") => form = Form::Csv,
+            Some("--csv") => forms.push(Form::Csv),
+            Some("--pack") => forms.push(Form::Packed),
+            Some("-o") => destinations.push(destination(arguments.next())?),
             Some("--by-position") => columns.by_position = true,
             Some("--skip") => columns.skip.push(heading(arguments.next())?),
-            Some(option) if option.starts_with('-') && option != "-" => {
-                return Err(format!("there is no option {option}\n{USAGE}"))
+            Some("-") => files.push(Source::StandardInput),
+            _ if argument.as_encoded_bytes().starts_with(b"-") => {
+                let option = shown(&argument.to_string_lossy(), QUOTED);
+                return wrong(&format!("there is no option {option}"));
             }
-            _ if source.is_some() => return Err(format!("one sheet at a time\n{USAGE}")),
-            Some("-") => source = Some(Source::StandardInput),
-            _ => source = Some(Source::File(argument.into())),
+            _ => files.push(Source::File(argument.into())),
         }
     }
-    if columns.by_position && !columns.skip.is_empty() {
-        return Err(format!(
-            "--skip goes by headings, and --by-position passes them by\n{USAGE}"
-        ));
+    forms.dedup();
+    if forms.len() > 1 {
+        return wrong("--csv and --pack are two forms: one at a time");
     }
-    match source {
-        Some(source) => Ok(Command::Judge {
-            source,
-            form,
-            columns,
-        }),
-        None => Err(USAGE.to_owned()),
+    if destinations.len() > 1 {
+        return wrong("one -o FILE at a time");
+    }
+    if columns.by_position && !columns.skip.is_empty() {
+        return wrong("--skip goes by headings, and --by-position passes them by");
+    }
+    let request = Request {
+        source: match (files.pop(), files.is_empty()) {
+            (Some(source), true) => source,
+            (Some(_), false) => return wrong("one sheet at a time"),
+            (None, _) => return Err(USAGE.to_owned()),
+        },
+        destination: destinations.pop().unwrap_or(Destination::StandardOutput),
+        form: forms.pop().unwrap_or(Form::Table),
+        columns,
+    };
+    if request.form == Form::Packed
+        && request.destination == Destination::StandardOutput
+        && io::stdout().is_terminal()
+    {
+        return wrong("packed rows are bytes and not for a terminal: use -o FILE or a pipe");
+    }
+    Ok(Command::GoThrough(request))
+}
+
+fn wrong<T>(message: &str) -> Result<T, String> {
+    Err(format!("{message}\n{USAGE}"))
+}
+
+/// The file after `-o`.
+fn destination(argument: Option<OsString>) -> Result<Destination, String> {
+    match argument {
+        Some(file) if !file.is_empty() && file != "-" => Ok(Destination::File(file.into())),
+        _ => wrong("-o needs a file; without it the answers go to standard output"),
     }
 }
 
 /// The heading after `--skip`.
 fn heading(argument: Option<OsString>) -> Result<String, String> {
     let heading = argument.map(|argument| argument.to_string_lossy().into_owned());
-    heading
-        .filter(|heading| !heading.trim().is_empty())
-        .ok_or_else(|| format!("--skip needs a heading\n{USAGE}"))
+    match heading.filter(|heading| !heading.trim().is_empty()) {
+        Some(heading) => Ok(heading),
+        None => wrong("--skip needs a heading"),
+    }
 }
 
 pub fn help() -> String {
@@ -91,19 +136,26 @@ pub fn help() -> String {
 const HELP: &str = "\
 Checks LVL members and steel dowel joints to SP 64.13330, one member a row.
 
-usage: sheet [--csv] [--skip HEADING]... [--by-position] FILE.csv
+usage: sheet [--csv | --pack] [-o FILE] [--skip HEADING]... [--by-position] FILE.csv
        - in place of FILE.csv reads standard input
 
   --csv           writes the sheet itself, with the answers in columns after its
                   last one, in place of the table; the count of rows goes to the
                   error output
+  --pack          writes the rows packed, as the program schedule reads them; a
+                  row that cannot be packed is left out, with a note
+  -o FILE         writes to a file: a new one takes the old one's place when all
+                  is done, and until then the old one stands as it is
   --skip HEADING  passes over a column of your own: remarks, drawing
   --by-position   takes the cells in their order, whatever the headings say
+  --              ends the options: what follows is a file
   --help          this text
 
-The sheet. A line is a row; quotes do not reach across lines. Fields are
-separated by commas, semicolons or tabs: as a first line sep=; says, else as the
-header is best understood, else whichever the first line has most of.
+The sheet. A line is a row. A field in quotes may hold line breaks; a quote that
+is not closed spoils its own line. Fields are separated by commas, semicolons or
+tabs: as a first line sep=; says, else as the header is best understood, else
+whichever the first line has most of. The text is UTF-8; UTF-16 and Windows-1251
+are recognised, with a note where no mark says so, and --csv writes them again.
 
 The header is a line without numbers that has two known headings at least. It is
 looked for in the first {looked_at} lines; what stands above it is passed over, with a
@@ -132,12 +184,13 @@ Numbers may have a decimal point, spaces between thousands and an exponent; a
 decimal comma too, where fields are not separated by commas. 20.000, and 20,000
 there, are refused, since both 20 and 20000 may be meant. All cells have to be
 whole numbers. What is not a number is shown to the add-in as such, and refused.
-The answers of an earlier --csv are written anew, in their columns.
+The answers of an earlier --csv are written anew, in their columns. In --csv, text
+that a spreadsheet would compute (=, +, -, @ first) gets an apostrophe before it.
 
 The table. Utilisation is rounded up to a tenth of a percent, so that a pass is at
 most 100.0 and a fail above it. Checks of layout, slenderness and joint length are
 yes or no and have no figure. All judgement is the proved add-in's.
 
-Exit code: 0 every row passes; 1 a row fails or is refused; 2 the sheet cannot be
-read, has no rows, or its answers cannot be written.
+Exit code: 0 every row passes, or is packed; 1 a row fails or is refused; 2 the
+sheet cannot be read, has no rows, or its answers cannot be written.
 ";

@@ -1,7 +1,7 @@
 //! Why a row is refused, in words: the refusal's number, its cell, and what was typed there.
 use crate::columns::Basis;
 use crate::number::Typed;
-use crate::row::SheetRow;
+use crate::row::{Refused, SheetRow};
 use crate::text::shown;
 use crate::words;
 use lvl_addin::answer::Refusal;
@@ -13,8 +13,15 @@ const GREATEST: f64 = 17_179_869_183.0;
 /// How much of a cell's text is quoted.
 const QUOTED: usize = 24;
 
+pub fn reason(refused: Refused, row: &SheetRow) -> String {
+    match refused {
+        Refused::ByAddin(refusal) => of_addin(refusal, row),
+        Refused::ExtraColumn => extra_column(row),
+    }
+}
+
 /// "cell 9 moment M: blank, but kind 2 needs it".
-pub fn refusal(refusal: Refusal, row: &SheetRow) -> String {
+fn of_addin(refusal: Refusal, row: &SheetRow) -> String {
     let number = refusal.cell as usize;
     let Some(words) = words::cell_words(number) else {
         return format!("refusal {} of the whole row", refusal.number);
@@ -32,7 +39,7 @@ pub fn refusal(refusal: Refusal, row: &SheetRow) -> String {
 }
 
 /// For a row with something in a column that holds nothing known.
-pub fn extra_column(row: &SheetRow) -> String {
+fn extra_column(row: &SheetRow) -> String {
     let Some((column, field)) = row.extra_column() else {
         return "no column without a heading is filled".to_owned();
     };

@@ -6,7 +6,7 @@ use crate::lines::Line;
 use crate::number::Typed;
 use lvl_addin::answer::{Refusal, Verdict};
 use lvl_addin::entry;
-use lvl_addin::row::CELLS;
+use lvl_addin::row::{HostRow, CELLS};
 use std::borrow::Cow;
 
 pub struct SheetRow<'a> {
@@ -23,10 +23,28 @@ pub struct SheetRow<'a> {
 /// What became of a row.
 #[derive(Clone, Copy, Debug, PartialEq, Eq)]
 pub enum Outcome {
-    Judged(Verdict),
-    Refused(Refusal),
+    Passed,
+    Failed,
+    Packed,
+    Refused,
+}
+
+/// Why a row is refused.
+#[derive(Clone, Copy, Debug, PartialEq, Eq)]
+pub enum Refused {
+    ByAddin(Refusal),
     /// Not shown to the add-in: a column that holds nothing known is filled.
     ExtraColumn,
+}
+
+impl Outcome {
+    pub fn of_judged(judged: Result<Verdict, Refused>) -> Outcome {
+        match judged {
+            Ok(verdict) if verdict.passes => Outcome::Passed,
+            Ok(_) => Outcome::Failed,
+            Err(_) => Outcome::Refused,
+        }
+    }
 }
 
 impl<'a> SheetRow<'a> {
@@ -47,14 +65,21 @@ impl<'a> SheetRow<'a> {
         }
     }
 
-    /// The add-in's answer, unless a field without a heading makes it unclear which cells are meant.
-    pub fn judged(&self) -> Outcome {
-        if self.extra_column().is_some() {
-            return Outcome::ExtraColumn;
-        }
-        match entry::check(&self.cells.map(Typed::host_cell)) {
-            Ok(verdict) => Outcome::Judged(verdict),
-            Err(refusal) => Outcome::Refused(refusal),
+    /// The add-in's verdict.
+    pub fn judged(&self) -> Result<Verdict, Refused> {
+        entry::check(&self.host_row()?).map_err(Refused::ByAddin)
+    }
+
+    /// The bytes that the add-in packs the row into.
+    pub fn packed(&self) -> Result<Vec<u8>, Refused> {
+        entry::pack(&self.host_row()?).map_err(Refused::ByAddin)
+    }
+
+    /// The cells for the add-in, unless a field without a heading makes it unclear which are meant.
+    fn host_row(&self) -> Result<HostRow, Refused> {
+        match self.extra_column() {
+            Some(_) => Err(Refused::ExtraColumn),
+            None => Ok(self.cells.map(Typed::host_cell)),
         }
     }
 

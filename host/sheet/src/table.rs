@@ -1,7 +1,7 @@
 //! The table that a person reads.
 use crate::number::Typed;
 use crate::opening::Opening;
-use crate::row::{Outcome, SheetRow};
+use crate::row::{Outcome, Refused, SheetRow};
 use crate::text::{shown, width};
 use crate::{reasons, words, Report};
 use lvl_addin::answer::Verdict;
@@ -86,18 +86,19 @@ impl<W: Write> Report for Table<W> {
         Ok(())
     }
 
-    fn row(&mut self, row: &SheetRow, outcome: &Outcome) -> io::Result<()> {
-        let line = line(row, outcome);
+    fn row(&mut self, row: &SheetRow) -> io::Result<Outcome> {
+        let judged = row.judged();
+        let line = line(row, judged);
         match self.name_width {
-            Some(name_width) => writeln!(self.output, "{}", line.aligned(name_width)),
+            Some(name_width) => writeln!(self.output, "{}", line.aligned(name_width))?,
             None => {
                 self.held.push(line);
-                if self.held.len() < LOOKED_AT {
-                    return Ok(());
+                if self.held.len() == LOOKED_AT {
+                    self.release()?;
                 }
-                self.release()
             }
         }
+        Ok(Outcome::of_judged(judged))
     }
 
     fn end(&mut self) -> io::Result<()> {
@@ -120,18 +121,19 @@ fn heading() -> Line {
     }
 }
 
-fn line(row: &SheetRow, outcome: &Outcome) -> Line {
+fn line(row: &SheetRow, judged: Result<Verdict, Refused>) -> Line {
     let kind = row.cell(1).whole();
-    let refused = |reason| ("refused", NONE.to_owned(), NONE.to_owned(), reason);
-    let (verdict, utilisation, dowels, reason) = match outcome {
-        Outcome::Judged(verdict) => (
+    let (verdict, utilisation, dowels, reason) = match judged {
+        Ok(verdict) => (
             if verdict.passes { "pass" } else { "FAIL" },
-            utilisation(verdict),
+            utilisation(&verdict),
             dowels(verdict.count),
             words::check(verdict.check, kind).to_owned(),
         ),
-        Outcome::Refused(refusal) => refused(reasons::refusal(*refusal, row)),
-        Outcome::ExtraColumn => refused(reasons::extra_column(row)),
+        Err(refused) => {
+            let reason = reasons::reason(refused, row);
+            ("refused", NONE.to_owned(), NONE.to_owned(), reason)
+        }
     };
     Line {
         name: shown(&row.name(), NAME),

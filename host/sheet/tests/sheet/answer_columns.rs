@@ -1,6 +1,6 @@
 //! The answers in columns beside the input.
 use crate::common::{
-    answers, cells_of, command, csv, hall_roof, to_last_cell, Scratch, HEADER, ROW_A, ROW_E,
+    answers, cells_of, csv, hall_roof, to_last_cell, Scratch, HEADER, ROW_A, ROW_E,
 };
 use lvl_addin::answer::{Refusal, Verdict};
 use lvl_addin::entry;
@@ -117,14 +117,4 @@ fn an_answers_heading_alone_stops_the_sheet() {
         let skip = "--skip \"count\": an answer cannot be passed over: rename the column";
         assert_eq!(run.err.contains(skip), options.len() == 3);
     }
-}
-
-#[test]
-fn answer_columns_keep_bytes_of_other_encodings() {
-    let mut content = format!("{HEADER}\n").into_bytes();
-    content.extend_from_slice(b"\xCF\xF0\xEE\xE3\xEE\xED,2,1,3,10,1000,75,300,,20000000,20000\n");
-    let file = Scratch::new(&content);
-    let output = command().arg("--csv").arg(&file.0).output().unwrap();
-    let name = b"\n\xCF\xF0\xEE\xE3\xEE\xED,2,";
-    assert!(output.stdout.windows(name.len()).any(|part| part == name));
 }

@@ -1,4 +1,4 @@
-//! Separators, headers and names, columns that are missing or too many, quotes.
+//! Separators, headers and names, columns that are missing or too many.
 use crate::common::{by_position, table, table_of, to_last_cell, HEADER, ROW_A, ROW_E};
 use lvl_addin::row::CELLS;
 use lvl_sheet::words;
@@ -59,18 +59,4 @@ fn missing_and_extra_columns() {
         "column {column}: \"remark\" stands past the last cell, {CELLS} {last}"
     )));
     assert_eq!(run.summary(), "2 rows: 1 passed, 0 failed, 1 refused");
-}
-
-#[test]
-fn quotes() {
-    let run = table_of(&[
-        &ROW_A.replace("A,", "\"A \"\"left\"\", axis 1\","),
-        &ROW_A.replace("A,", "\"B never closed,"),
-        &ROW_A.replace("A,", "C 3\" wide,"),
-        &ROW_A.replace("75", "\"75\""),
-    ]);
-    assert!(run.line("A \"left\", axis 1").contains("69.1"));
-    assert!(run.line("B never closed").ends_with("cell 1 kind: blank"));
-    assert!(run.line("C 3\" wide").contains("69.1"));
-    assert_eq!(run.summary(), "4 rows: 3 passed, 0 failed, 1 refused");
 }

@@ -6,7 +6,14 @@ use std::process::Stdio;
 
 #[test]
 fn nothing_to_judge() {
-    for content in ["", "\n\n", HEADER, "\u{feff}", ",,,,\n;;;\n"] {
+    for content in [
+        "",
+        "\n\n",
+        HEADER,
+        "\u{feff}",
+        ",,,,\n;;;\n",
+        &"\n".repeat(9_999),
+    ] {
         let run = table(content);
         assert_eq!((run.code, run.out.as_str()), (2, ""));
         assert!(run.err.ends_with("there are no rows\n"), "{}", run.err);
@@ -23,6 +30,11 @@ fn nothing_to_judge() {
         (&["a.csv", "b.csv"], "one sheet at a time"),
         (&["a.csv", "--skip"], "--skip needs a heading"),
         (&["--skip", " ", "a.csv"], "--skip needs a heading"),
+        (&["--csv=a.csv"], "there is no option --csv=a.csv"),
+        (
+            &["/dev/zero"],
+            "sheet: /dev/zero: longer than 268435456 bytes: this is no sheet\n",
+        ),
         (
             &["--skip", "remarks", "--by-position", "a.csv"],
             "--skip goes by headings, and --by-position passes them by",
@@ -42,7 +54,10 @@ fn help_names_every_cell_and_exit_code() {
         "moment M",
         "  22  km",
         "--csv",
-        "Exit code: 0 every row passes; 1 ",
+        "Exit code: 0 every row passes, or is packed; 1 ",
+        "  -o FILE ",
+        "  --pack ",
+        "  --  ",
         "earlier --csv",
         "in columns after its\n",
         "the 22 cells in this order",

@@ -85,6 +85,17 @@ pub fn run(arguments: &[&str]) -> Run {
     )
 }
 
+/// What a terminal gets to see of a run.
+pub fn on_terminal(arguments: &[&str]) -> String {
+    let quoted = |argument: &&str| format!("'{argument}'");
+    let arguments: Vec<String> = arguments.iter().map(quoted).collect();
+    let line = format!("{} {}", env!("CARGO_BIN_EXE_sheet"), arguments.join(" "));
+    let mut script = Command::new("script");
+    script.args(["--quiet", "--return", "--command", &line, "/dev/null"]);
+    let output = script.stdin(Stdio::null()).output().unwrap();
+    String::from_utf8(output.stdout).unwrap()
+}
+
 /// A file that lasts as long as the value.
 pub struct Scratch(pub PathBuf);
 
@@ -99,6 +110,10 @@ impl Scratch {
 
     pub fn run(&self, options: &[&str]) -> Run {
         Run::of(command().args(options).arg(&self.0).output().unwrap())
+    }
+
+    pub fn path(&self) -> &str {
+        self.0.to_str().unwrap()
     }
 }
 

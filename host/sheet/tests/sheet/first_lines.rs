@@ -44,7 +44,7 @@ fn title_lines_are_passed_over_with_a_note() {
         "line 3, \"\"Drawing 12\";;;;\"",
         "line 4, \";Rev.;3\"",
         "line 5, \"Name;Hall;Type;Roof\"",
-        "line 6, \"Breite ;\"",
+        "line 6, \"Breite\u{fffd};\"",
     ]) {
         assert_eq!(note, format!("sheet: note: {line}, {end}"));
     }

@@ -34,6 +34,20 @@ fn a_hundred_thousand_rows() {
     assert_eq!(run.err, "", "no progress where nobody watches");
 }
 
+/// Lines without an end, without content, or of quotes that are not closed.
+#[test]
+fn much_of_nothing() {
+    let blank = table("\n".repeat(50_000_000));
+    assert_eq!((blank.code, blank.out.as_str()), (2, ""));
+    assert!(blank.err.ends_with(": the first 10000 lines are blank\n"));
+    for line in ["\"", "\"x", "\"\"\"", ",\"", "\"\"", "\"1,2,3"] {
+        let content = format!("{HEADER}\n{}", format!("{line}\n").repeat(300_000));
+        let run = table(content);
+        assert_eq!(run.code, 1, "{line}");
+        assert!(run.summary().contains(" rows: 0 passed, 0 failed, "));
+    }
+}
+
 #[test]
 fn random_bytes() {
     const LIKELY: &[u8] = b",,,;;\t\"\"\n\n\r 0123456789012345678901234.-+eEkind\0\xFF\xD0";
