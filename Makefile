@@ -24,9 +24,11 @@ prove: format
 archive:
 	rt staticlib addin
 
-# The second implementation against the add-in, demand 3 on its verdicts, the wrong copies, the header, the sheet, the program.
+# The second implementation against the add-in, demand 3 on its verdicts, the wrong copies, the header, the sheet, the program;
+# and that no package needs a later Rust than it says.
 host-tests: prove
 	rt staticlib addin
+	$(HOST) clippy --offline --workspace --all-targets -- --deny warnings
 	$(HOST) test --offline --profile checked --workspace -- --nocapture
 
 # The command ends with 1 where a member fails or is refused, as some of the hall roof do.

@@ -143,10 +143,11 @@
  * Floating point: answers do not depend on the mode of the thread that calls.
  * Flush to zero and denormals are zero (which -ffast-math sets, also through a
  * library that was built with it), the four ways to round, and exceptions that
- * are unmasked change nothing, with one exception that the language leaves no
- * means to avoid: where the denormal exception is unmasked, and denormals are
- * not zero, a cell that holds a subnormal raises it (SIGFPE on Linux). Of the
- * status flags only that of denormals may be set by a call.
+ * are unmasked change nothing, but for one: each cell's float is compared with
+ * itself to tell a NaN, so where the denormal exception is unmasked, and
+ * denormals are not zero, a cell that holds a subnormal raises it (SIGFPE on
+ * Linux). Leave it masked, as it is by default. Of the status flags only that
+ * of denormals may be set by a call.
  *
  *
  * EXAMPLE

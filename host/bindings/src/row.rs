@@ -13,7 +13,7 @@ pub const ANSWER_BYTES: usize = 24;
 pub const PACKED_CELL_BITS: usize = 1 + 34;
 
 /// The most bytes that a packed row takes: every cell filled, and zero bits to fill the last byte.
-pub const PACKED_BYTES: usize = (PACKED_CELL_BITS * CELLS).div_ceil(8);
+pub const PACKED_BYTES: usize = (PACKED_CELL_BITS * CELLS + 7) / 8;
 
 /// The cells of a row, cell 1 first: blank or a float.
 pub type HostRow = [Option<f64>; CELLS];

@@ -244,7 +244,7 @@ fn unpack_spoilt(packed: &mut [u8], cells: &Cells, salt: u64, tally: &mut Tally)
         "row {salt}"
     );
     tally.refuse(Operation::Unpack, refusal);
-    if !bits.is_multiple_of(8) {
+    if bits % 8 != 0 {
         *packed.last_mut().expect("a packed row has bytes") |= 1 << (salt as u32 % (8 - bits % 8));
         let refusal = Paper::unpack(packed).expect_err("a set padding bit does not unpack");
         assert_eq!(refusal, Refusal { number: 7, cell: 0 }, "row {salt}");

@@ -173,7 +173,7 @@ fn the_example_bytes_print_the_example_lines() {
 /// A row with padding bits, as few of its cells filled as that takes, and how many such bits it has.
 fn padded_row() -> (Vec<u8>, usize) {
     let bits = |filled: usize| CELLS + 34 * filled;
-    let filled = (0..CELLS).find(|&filled| !bits(filled).is_multiple_of(8));
+    let filled = (0..CELLS).find(|&filled| bits(filled) % 8 != 0);
     let filled = filled.expect("34 is no multiple of 8");
     let mut cells = [None; CELLS];
     cells[..filled].fill(Some(1));

@@ -63,7 +63,7 @@ pub fn read(text: &str, mark: DecimalMark) -> Typed {
     };
     if !is_digits(decimals)
         || digits.len() + decimals.len() == 0
-        || !exponent.is_none_or(is_exponent)
+        || !exponent.map_or(true, is_exponent)
     {
         return Typed::Text;
     }

@@ -26,7 +26,7 @@ impl Progress {
 
     /// So many rows are judged by now.
     pub fn rows(&mut self, rows: u64) {
-        if !self.visible || !rows.is_multiple_of(ROWS_PER_LOOK) || Instant::now() < self.next {
+        if !self.visible || rows % ROWS_PER_LOOK != 0 || Instant::now() < self.next {
             return;
         }
         let text = format!("{rows} rows");

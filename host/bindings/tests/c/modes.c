@@ -1,7 +1,11 @@
 /*
  * Both entries in every floating-point mode: flush to zero, denormals are zero, the four ways to round, exceptions masked and
- * not. Each answers as it does in the default mode, and there a cell that is no whole number is refused by its number.
+ * not. Each answers as it does in the default mode, and there a cell that is no whole number is refused by its number. The one
+ * case that the header excepts is tried as well: it traps.
  */
+#define _POSIX_C_SOURCE 200809L
+#include <setjmp.h>
+#include <signal.h>
 #include <stdio.h>
 #include <xmmintrin.h>
 
@@ -50,9 +54,28 @@ static struct answers call(const uint8_t *row, unsigned mode)
     return got;
 }
 
-static unsigned long calls, different, not_refused;
+static unsigned long calls, different, not_refused, trapped;
 
-/* The row in every mode. A mode that traps on subnormals is tried where the row has none. */
+/* Whether a call with the denormal exception unmasked, and denormals not zero, ends in the signal of that trap. */
+static sigjmp_buf before;
+
+static void on_trap(int signal)
+{
+    (void)signal;
+    siglongjmp(before, 1);
+}
+
+static int traps(const uint8_t *row)
+{
+    if (sigsetjmp(before, 1) == 0) {
+        call(row, MASKS & ~DENORMAL_MASK);
+        return 0;
+    }
+    _mm_setcsr(DEFAULT);
+    return 1;
+}
+
+/* The row in every mode but those that the header excepts: a trap on subnormals, where they are not zero and the row has one. */
 static void in_every_mode(const uint8_t *row, int subnormal)
 {
     struct answers usual = call(row, DEFAULT);
@@ -61,7 +84,8 @@ static void in_every_mode(const uint8_t *row, int subnormal)
         for (denormals = 0; denormals <= 1; denormals++)
             for (rounding = 0; rounding <= 3; rounding++)
                 for (trap = 0; trap <= 2; trap++) {
-                    unsigned masks = trap == 0 ? MASKS : trap == 1 || subnormal ? DENORMAL_MASK : 0;
+                    int excepted = subnormal && !denormals;
+                    unsigned masks = trap == 0 ? MASKS : trap == 1 || excepted ? DENORMAL_MASK : 0;
                     struct answers got = call(row, masks | flush * FLUSH_TO_ZERO | denormals * DENORMALS_ARE_ZERO
                                                        | rounding * ROUNDINGS);
                     calls += 2;
@@ -79,6 +103,10 @@ int main(void)
 {
     uint8_t row[LVL_ROW_BYTES];
     size_t number, cell, i;
+    struct sigaction action;
+    memset(&action, 0, sizeof action);
+    action.sa_handler = on_trap;
+    sigaction(SIGFPE, &action, NULL);
     for (i = 0; i < NUMBERS; i++) {
         for (number = 0; number < ROWS; number++)
             for (cell = 1; cell <= LVL_CELLS; cell++) {
@@ -86,6 +114,7 @@ int main(void)
                 in_every_mode(row, 0);
                 fill_bits(row, cell, numbers[i]);
                 in_every_mode(row, i < SUBNORMALS);
+                trapped += traps(row);
                 if (i < UNREADABLE)
                     expect(row, LVL_REFUSAL * LVL_UNREADABLE + cell);
             }
@@ -95,7 +124,7 @@ int main(void)
         if (i < UNREADABLE)
             expect(row, LVL_REFUSAL * LVL_UNREADABLE + 1);
     }
-    printf("%lu calls, %lu differ, %lu not refused, flags but the denormal one: %u\n", calls, different, not_refused,
-           flags & ~DENORMAL_FLAG);
+    printf("%lu calls, %lu differ, %lu not refused, %lu trapped, flags but the denormal one: %u\n", calls, different,
+           not_refused, trapped, flags & ~DENORMAL_FLAG);
     return 0;
 }

@@ -3,7 +3,7 @@ use crate::building::{compile, include_folder, printed, scratch, source, succeed
 use lvl_addin::row::{ANSWER_BYTES, CELLS, PACKED_BYTES};
 /// What the test hosts print, with the sizes of the bindings: the header's are no others.
 fn expected() -> String {
-    let blank = CELLS.div_ceil(8);
+    let blank = (CELLS + 7) / 8;
     let after_blank = PACKED_BYTES - blank;
     format!(
         "\

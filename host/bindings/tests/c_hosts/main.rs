@@ -5,4 +5,5 @@ mod building;
 mod floating_point;
 mod header;
 mod object_code;
+mod readme;
 mod stack;

@@ -1,5 +1,6 @@
-//! The stack that an entry needs is what the header says.
+//! The stack that an entry needs is what the header and README.md say.
 use crate::building::{include_folder, printed, source, C99};
+use std::fs::read_to_string;
 
 /// The figure after a word in a text, commas left out.
 fn figure(text: &str, word: &str) -> usize {
@@ -19,7 +20,7 @@ fn figure(text: &str, word: &str) -> usize {
 #[test]
 fn no_more_than_the_header_says() {
     let touched = printed(&C99, "stack", &source("stack.c"));
-    let header = std::fs::read_to_string(include_folder().join("lvl_addin.h")).unwrap();
+    let header = read_to_string(include_folder().join("lvl_addin.h")).unwrap();
     let (_, stack) = header.split_once("Stack: ").expect("a paragraph on it");
     for entry in ["check", "pack"] {
         let stated = figure(stack, &format!("lvl_{entry}_row"));
@@ -28,5 +29,13 @@ fn no_more_than_the_header_says() {
             touched <= stated && stated < touched + 200,
             "{entry}: {touched} bytes, stated {stated}"
         );
+    }
+    let readme = read_to_string(include_folder().join("../README.md")).unwrap();
+    let (_, readme) = readme
+        .split_once("Any number of threads")
+        .expect("a word on them");
+    for (entry, word) in [("check", "a check takes"), ("pack", "packing")] {
+        let stated = figure(stack, &format!("lvl_{entry}_row"));
+        assert_eq!(figure(readme, word), stated);
     }
 }

@@ -58,7 +58,7 @@ pub fn long(random: &mut Random, beyond: usize) -> Vec<u8> {
     let blank = [None; CELLS];
     let mut one_filled = blank;
     one_filled[CELLS - 1] = Some(1);
-    while !(end - input.len()).is_multiple_of(Paper::packed_length(&blank)) {
+    while (end - input.len()) % Paper::packed_length(&blank) != 0 {
         append(&one_filled, &mut input);
     }
     while input.len() < end {

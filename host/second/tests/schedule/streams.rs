@@ -1,5 +1,5 @@
 //! The program's standard streams where they fail, would make it wait, or are interrupted by a signal. The program has no exit
-//! status: a line on standard error tells of each failure.
+//! status: a line on standard error tells of each failure, unless a signal ends the program, which its status tells.
 use super::{printed, program_path, INPUT_CUT, OF_THE_PAPER};
 use lvl_second::{Paper, Rules, INPUT_BYTES};
 use std::fs::File;
@@ -7,6 +7,7 @@ use std::io::{Read, Write};
 use std::os::fd::OwnedFd;
 use std::os::unix::net::UnixStream;
 use std::os::unix::process::ExitStatusExt;
+use std::path::{Path, PathBuf};
 use std::process::{Child, Command, Output, Stdio};
 use std::time::Duration;
 
@@ -18,9 +19,11 @@ const OUTPUT_LOST: &str =
 /// The bytes whose lines are `OF_THE_PAPER`.
 const TWO_LINES: [u8; 4] = [0x00, 0x00, 0x00, 0x80];
 
+const SIGSEGV: i32 = 11;
 const SIGPIPE: i32 = 13;
 const SIGCONT: i32 = 18;
 const SIGSTOP: i32 = 19;
+const SIGXFSZ: i32 = 25;
 
 /// So long that it never passes: a socket with a timeout has its calls interrupted by a stop, one without has them resumed.
 const NEVER: Duration = Duration::from_secs(3600);
@@ -104,22 +107,109 @@ fn a_cut_input_and_a_full_disk_are_both_told() {
     assert_says(&ended, &format!("{INPUT_CUT}{OUTPUT_LOST}"));
 }
 
-/// A limit on a file's size lets a part of the lines through, as a disk does that fills up.
-#[test]
-fn a_disk_that_fills_up_is_told() {
-    let file = std::env::temp_dir().join(format!("schedule-{}", std::process::id()));
+/// A file of its own, which is removed with the value.
+struct Scratch(PathBuf);
+
+impl Scratch {
+    fn new(name: &str) -> Scratch {
+        Scratch(Path::new(env!("CARGO_TARGET_TMPDIR")).join(name))
+    }
+
+    fn bytes(&self) -> Vec<u8> {
+        std::fs::read(&self.0).expect("the file is made")
+    }
+}
+
+impl Drop for Scratch {
+    fn drop(&mut self) {
+        let _ = std::fs::remove_file(&self.0);
+    }
+}
+
+/// Prints many rows into a file that may not grow beyond a limit, which lets a part of the lines through, as a disk does that
+/// fills up.
+fn with_limited_file(name: &str, prepare: &str) -> Output {
+    let file = Scratch::new(name);
     let line = format!(
-        r#"ulimit -f 1; trap "" XFSZ; exec "$0" > '{}'"#,
-        file.display()
+        r#"ulimit -f 1; {prepare} exec "$0" > '{}'"#,
+        file.0.display()
     );
     let ended = fed(by_shell(&line), &many_rows());
-    let written = std::fs::read(&file).expect("the file is made");
-    std::fs::remove_file(&file).expect("the file can be removed");
+    let written = file.bytes();
     assert!(!written.is_empty());
-    assert!(Paper::schedule(&many_rows())
-        .as_bytes()
-        .starts_with(&written));
+    let lines = Paper::schedule(&many_rows());
+    assert!(lines.len() > written.len() && lines.as_bytes().starts_with(&written));
+    ended
+}
+
+#[test]
+fn a_disk_that_fills_up_is_told() {
+    let ended = with_limited_file("filled-up", r#"trap "" XFSZ;"#);
     assert_says(&ended, OUTPUT_LOST);
+}
+
+#[test]
+fn a_limit_of_file_size_ends_the_program_by_the_signal() {
+    let ended = with_limited_file("limited", "");
+    assert_eq!(ended.status.signal(), Some(SIGXFSZ));
+    assert!(ended.stderr.is_empty());
+}
+
+/// A disk on a network may tell only of a file that is closed that it was full: here a library's `close` fails.
+#[test]
+fn a_disk_that_is_full_at_the_close_is_told() {
+    let source = Scratch::new("full-at-the-close.c");
+    let library = Scratch::new("full-at-the-close.so");
+    let fails = "#include <errno.h>\nint close(int fd) { (void)fd; errno = EDQUOT; return -1; }\n";
+    std::fs::write(&source.0, fails).expect("a file can be written");
+    let compiled = Command::new("gcc")
+        .args(["-shared", "-fPIC", "-o"])
+        .args([&library.0, &source.0])
+        .status();
+    assert!(compiled.expect("a compiler").success());
+    let line = format!(
+        r#"LD_PRELOAD='{}' exec "$0" > /dev/null"#,
+        library.0.display()
+    );
+    assert_says(&fed(by_shell(&line), &TWO_LINES), OUTPUT_LOST);
+    assert_says(&fed(by_shell(&line), &[]), "");
+}
+
+/// The way that README.md gives to a script.
+#[test]
+fn a_script_sees_that_all_went_well_or_that_it_did_not() {
+    let file = Scratch::new("lines-of-a-script");
+    let script = |input: &str, output: &str| {
+        let line = format!(
+            r#"if said=$("$0" {input} 2>&1 > {output}) && [ -z "$said" ]; then echo well; else echo not; fi"#
+        );
+        let ended = fed(by_shell(&line), &TWO_LINES);
+        String::from_utf8(ended.stdout).expect("text")
+    };
+    let path = format!("'{}'", file.0.display());
+    assert_eq!(script("", &path), "well\n");
+    assert_eq!(file.bytes(), OF_THE_PAPER.as_bytes());
+    assert_eq!(script("<&-", &path), "not\n");
+    assert_eq!(script("", "/dev/full"), "not\n");
+    assert_eq!(script("< /dev/zero", &path), "not\n");
+}
+
+/// README.md says 1.6 MB, beside arguments and environment.
+#[test]
+fn the_stack_that_the_program_needs() {
+    let with_stack = |kilobytes: u32| {
+        let line = format!(r#"ulimit -s {kilobytes}; exec env -i "$0""#);
+        fed(by_shell(&line), &many_rows())
+    };
+    let enough = with_stack(1600);
+    assert_eq!(
+        String::from_utf8_lossy(&enough.stdout),
+        Paper::schedule(&many_rows())
+    );
+    assert_says(&enough, "");
+    let too_little = with_stack(1400);
+    assert_eq!(too_little.status.signal(), Some(SIGSEGV));
+    assert!(too_little.stdout.is_empty() && too_little.stderr.is_empty());
 }
 
 #[test]

@@ -37,7 +37,7 @@ fn no_name_names_two_things() {
     let mut by_key = HashMap::new();
     for (heading, name) in known() {
         let earlier = by_key.insert(key(&name), heading);
-        assert!(earlier.is_none_or(|earlier| earlier == heading), "{name}");
+        assert!(earlier.map_or(true, |earlier| earlier == heading), "{name}");
         assert_eq!(read(&name), Meaning::Known(heading), "{name}");
     }
     for number in 1..=CELLS {
