@@ -40,9 +40,13 @@ use tally::Tally;
 /// What is made of a sheet, row by row.
 pub trait Report {
     /// Once, before the rows.
-    fn begin(&mut self, opening: &Opening) -> io::Result<()>;
+    fn begin(&mut self, _: &Opening) -> io::Result<()> {
+        Ok(())
+    }
     /// For a line without content.
-    fn blank(&mut self, line: &[u8]) -> io::Result<()>;
+    fn blank(&mut self, _: &[u8]) -> io::Result<()> {
+        Ok(())
+    }
     /// For each row.
     fn row(&mut self, row: &SheetRow) -> io::Result<Outcome>;
     /// Once, after the rows.
@@ -55,7 +59,6 @@ pub enum Stop {
     Write(io::Error),
     /// It is not clear which column holds what.
     Columns(String),
-    NoRows,
 }
 
 /// Reports every row of a sheet's text.

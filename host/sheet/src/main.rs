@@ -47,10 +47,9 @@ fn help() -> u8 {
 
 /// Reads the sheet, answers it, and shows the count.
 fn answered(request: &Request) -> Result<Tally, Failure> {
-    let name = request.source.name();
-    let of_sheet = |problem: String| Failure::Said(format!("{name}: {problem}"));
-    let is_shared = request.destination == Destination::StandardOutput;
-    let bytes = input::read(&request.source, is_shared).map_err(of_sheet)?;
+    let to_standard_output = request.destination == Destination::StandardOutput;
+    let bytes = input::read(&request.source, to_standard_output)
+        .map_err(|problem| of_sheet(request, &problem))?;
     let encoding = Encoding::of(&bytes);
     notes::show(encoding.note().as_slice());
     let text = encoding.decoded(&bytes);
@@ -60,22 +59,19 @@ fn answered(request: &Request) -> Result<Tally, Failure> {
                 true => Lettering::Visible,
                 false => Lettering::Encoded(encoding),
             };
+            let lost = |error| lost("the answers", error);
             let mut output = output::standard_output();
-            let tally = reported(&text, request, &mut output, lettering);
-            let tally = tally.map_err(|stop| failure(stop, &name))?;
+            let tally = reported(&text, request, &mut output, lettering, lost)?;
             output.flush().map_err(lost)?;
             Ok(tally)
         }
         Destination::File(path) => {
-            let path_name = shown_path(path);
-            let of_file = |error| Failure::Said(format!("{path_name} cannot be written: {error}"));
-            let mut output = NewFile::create(path).map_err(of_file)?;
+            let name = shown_path(path);
+            let lost = |error| lost(&name, error);
+            let mut output = NewFile::create(path).map_err(lost)?;
             let lettering = Lettering::Encoded(encoding);
-            let tally = match reported(&text, request, &mut output, lettering) {
-                Err(Stop::Write(error)) => return Err(of_file(error)),
-                tally => tally.map_err(|stop| failure(stop, &name))?,
-            };
-            output.replace().map_err(of_file)?;
+            let tally = reported(&text, request, &mut output, lettering, lost)?;
+            output.replace().map_err(lost)?;
             Ok(tally)
         }
     }
@@ -87,49 +83,52 @@ fn reported(
     request: &Request,
     output: &mut impl Write,
     lettering: Lettering,
-) -> Result<Tally, Stop> {
-    let columns = &request.columns;
-    // Rows that run over a terminal are progress enough.
-    let is_watched = io::stderr().is_terminal() && !io::stdout().is_terminal();
-    let mut progress = Progress::new(is_watched);
-    let gone_through = match request.form {
-        Form::Table => go_through(text, columns, &mut Table::new(&mut *output), &mut progress),
-        Form::Csv => {
-            let mut report = AnswerColumns::new(&mut *output, lettering);
-            go_through(text, columns, &mut report, &mut progress)
-        }
-        Form::Packed => go_through(
-            text,
-            columns,
-            &mut PackedRows::new(&mut *output),
-            &mut progress,
-        ),
+    lost: impl Fn(io::Error) -> Failure,
+) -> Result<Tally, Failure> {
+    let tally = match gone_through(text, request, output, lettering) {
+        Ok(tally) if tally.rows == 0 => return Err(of_sheet(request, "there are no rows")),
+        Ok(tally) => tally,
+        Err(Stop::Columns(problem)) => return Err(of_sheet(request, &problem)),
+        Err(Stop::Write(error)) => return Err(lost(error)),
     };
-    progress.clear();
-    let tally = gone_through?;
-    if tally.rows == 0 {
-        return Err(Stop::NoRows);
-    }
     match request.form {
-        Form::Table => writeln!(output, "\n{}", tally.judged()).map_err(Stop::Write)?,
+        Form::Table => writeln!(output, "\n{}", tally.judged()).map_err(lost)?,
         Form::Csv => notes::say(&tally.judged()),
         Form::Packed => notes::say(&tally.packed()),
     }
     Ok(tally)
 }
 
-fn failure(stop: Stop, name: &str) -> Failure {
-    match stop {
-        Stop::NoRows => Failure::Said(format!("{name}: there are no rows")),
-        Stop::Columns(message) => Failure::Said(format!("{name}: {message}")),
-        Stop::Write(error) => lost(error),
-    }
+fn gone_through(
+    text: &[u8],
+    request: &Request,
+    output: &mut impl Write,
+    lettering: Lettering,
+) -> Result<Tally, Stop> {
+    let columns = &request.columns;
+    // Rows that run over a terminal are progress enough.
+    let is_watched = io::stderr().is_terminal() && !io::stdout().is_terminal();
+    let mut progress = Progress::new(is_watched);
+    let tally = match request.form {
+        Form::Table => go_through(text, columns, &mut Table::new(output), &mut progress),
+        Form::Csv => {
+            let mut report = AnswerColumns::new(output, lettering);
+            go_through(text, columns, &mut report, &mut progress)
+        }
+        Form::Packed => go_through(text, columns, &mut PackedRows::new(output), &mut progress),
+    };
+    progress.clear();
+    tally
 }
 
-fn lost(error: io::Error) -> Failure {
+fn of_sheet(request: &Request, problem: &str) -> Failure {
+    Failure::Said(format!("{}: {problem}", request.source.name()))
+}
+
+fn lost(what: &str, error: io::Error) -> Failure {
     match error.kind() {
         ErrorKind::BrokenPipe => Failure::ReaderLeft,
-        _ => Failure::Said(format!("the answers cannot be written: {error}")),
+        _ => Failure::Said(format!("{what} cannot be written: {error}")),
     }
 }
 

@@ -42,58 +42,89 @@ const USAGE: &str =
 /// How much of an argument is quoted.
 const QUOTED: usize = 60;
 
+/// The arguments, sorted.
+#[derive(Default)]
+struct Sorted {
+    help: bool,
+    forms: Vec<Form>,
+    destinations: Vec<Destination>,
+    columns: ColumnOptions,
+    sources: Vec<Source>,
+}
+
 /// What the arguments after the program's name ask for, or what is wrong with them.
-pub fn read(mut arguments: impl Iterator<Item = OsString>) -> Result<Command, String> {
-    let mut forms = Vec::new();
-    let mut columns = ColumnOptions::default();
-    let mut files = Vec::new();
-    let mut destinations = Vec::new();
-    let mut are_ended = false;
+pub fn read(arguments: impl Iterator<Item = OsString>) -> Result<Command, String> {
+    let sorted = sort(arguments)?;
+    if sorted.help {
+        return Ok(Command::Help);
+    }
+    request(sorted).map(Command::GoThrough)
+}
+
+fn sort(mut arguments: impl Iterator<Item = OsString>) -> Result<Sorted, String> {
+    let mut sorted = Sorted::default();
     while let Some(argument) = arguments.next() {
         match argument.to_str() {
-            _ if are_ended => files.push(Source::File(argument.into())),
-            Some("--") => are_ended = true,
-            Some("--help" | "-h") => return Ok(Command::Help),
-            Some("--csv") => forms.push(Form::Csv),
-            Some("--pack") => forms.push(Form::Packed),
-            Some("-o") => destinations.push(destination(arguments.next())?),
-            Some("--by-position") => columns.by_position = true,
-            Some("--skip") => columns.skip.push(heading(arguments.next())?),
-            Some("-") => files.push(Source::StandardInput),
+            Some("--") => {
+                let files = arguments.by_ref().map(PathBuf::from);
+                sorted.sources.extend(files.map(Source::File));
+            }
+            Some("--help" | "-h") => sorted.help = true,
+            Some("--csv") => sorted.forms.push(Form::Csv),
+            Some("--pack") => sorted.forms.push(Form::Packed),
+            Some("-o") => sorted.destinations.push(destination(arguments.next())?),
+            Some("--by-position") => sorted.columns.by_position = true,
+            Some("--skip") => sorted.columns.skip.push(heading(arguments.next())?),
+            Some("-") => sorted.sources.push(Source::StandardInput),
             _ if argument.as_encoded_bytes().starts_with(b"-") => {
                 let option = shown(&argument.to_string_lossy(), QUOTED);
                 return wrong(&format!("there is no option {option}"));
             }
-            _ => files.push(Source::File(argument.into())),
+            _ => sorted.sources.push(Source::File(argument.into())),
         }
     }
-    forms.dedup();
-    if forms.len() > 1 {
+    Ok(sorted)
+}
+
+fn request(mut sorted: Sorted) -> Result<Request, String> {
+    sorted.forms.dedup();
+    let Some(source) = sorted.sources.pop() else {
+        return Err(USAGE.to_owned());
+    };
+    let request = Request {
+        source,
+        destination: sorted
+            .destinations
+            .pop()
+            .unwrap_or(Destination::StandardOutput),
+        form: sorted.forms.pop().unwrap_or(Form::Table),
+        columns: sorted.columns,
+    };
+    if !sorted.sources.is_empty() {
+        return wrong("one sheet at a time");
+    }
+    if !sorted.forms.is_empty() {
         return wrong("--csv and --pack are two forms: one at a time");
     }
-    if destinations.len() > 1 {
+    if !sorted.destinations.is_empty() {
         return wrong("one -o FILE at a time");
     }
-    if columns.by_position && !columns.skip.is_empty() {
+    if request.columns.by_position && !request.columns.skip.is_empty() {
         return wrong("--skip goes by headings, and --by-position passes them by");
     }
-    let request = Request {
-        source: match (files.pop(), files.is_empty()) {
-            (Some(source), true) => source,
-            (Some(_), false) => return wrong("one sheet at a time"),
-            (None, _) => return Err(USAGE.to_owned()),
-        },
-        destination: destinations.pop().unwrap_or(Destination::StandardOutput),
-        form: forms.pop().unwrap_or(Form::Table),
-        columns,
-    };
-    if request.form == Form::Packed
-        && request.destination == Destination::StandardOutput
-        && io::stdout().is_terminal()
-    {
+    if request.shows_bytes() {
         return wrong("packed rows are bytes and not for a terminal: use -o FILE or a pipe");
     }
-    Ok(Command::GoThrough(request))
+    Ok(request)
+}
+
+impl Request {
+    /// Whether packed rows would go to a terminal.
+    fn shows_bytes(&self) -> bool {
+        self.form == Form::Packed
+            && self.destination == Destination::StandardOutput
+            && io::stdout().is_terminal()
+    }
 }
 
 fn wrong<T>(message: &str) -> Result<T, String> {

@@ -1,5 +1,4 @@
 //! The rows packed, one after another, as the program `schedule` and other hosts read them.
-use crate::opening::Opening;
 use crate::row::{Outcome, Refused, SheetRow};
 use crate::text::shown;
 use crate::{notes, reasons, Report};
@@ -19,14 +18,6 @@ impl<W: Write> PackedRows<W> {
 }
 
 impl<W: Write> Report for PackedRows<W> {
-    fn begin(&mut self, _: &Opening) -> io::Result<()> {
-        Ok(())
-    }
-
-    fn blank(&mut self, _: &[u8]) -> io::Result<()> {
-        Ok(())
-    }
-
     /// A row that cannot be packed is left out, and said to be.
     fn row(&mut self, row: &SheetRow) -> io::Result<Outcome> {
         match row.packed() {

@@ -1,6 +1,5 @@
 //! The table that a person reads.
 use crate::number::Typed;
-use crate::opening::Opening;
 use crate::row::{Outcome, Refused, SheetRow};
 use crate::text::{shown, width};
 use crate::{reasons, words, Report};
@@ -78,14 +77,6 @@ impl<W: Write> Table<W> {
 }
 
 impl<W: Write> Report for Table<W> {
-    fn begin(&mut self, _: &Opening) -> io::Result<()> {
-        Ok(())
-    }
-
-    fn blank(&mut self, _: &[u8]) -> io::Result<()> {
-        Ok(())
-    }
-
     fn row(&mut self, row: &SheetRow) -> io::Result<Outcome> {
         let judged = row.judged();
         let line = line(row, judged);
