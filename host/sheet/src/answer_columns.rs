@@ -10,7 +10,6 @@ use crate::text::visible;
 use crate::{words, Report};
 use lvl_addin::answer::Verdict;
 use std::borrow::Cow;
-use std::io::{self, Write};
 
 /// The headings of the answers. A sheet that has them already gets new answers in their place.
 pub const HEADINGS: [&str; 6] = [
@@ -31,24 +30,27 @@ pub enum Lettering {
     Visible,
 }
 
-pub struct AnswerColumns<W> {
-    output: W,
+pub struct AnswerColumns {
+    output: Vec<u8>,
     lettering: Lettering,
 }
 
-impl<W: Write> AnswerColumns<W> {
-    pub fn new(output: W, lettering: Lettering) -> AnswerColumns<W> {
-        AnswerColumns { output, lettering }
+impl AnswerColumns {
+    pub fn new(lettering: Lettering) -> AnswerColumns {
+        AnswerColumns {
+            output: Vec::new(),
+            lettering,
+        }
     }
 
     /// The fields, the answers in the columns that they have already or else in new ones, and what stood further right.
-    fn write<'a>(
+    fn add<'a>(
         &mut self,
         columns: &Columns,
         mut fields: Vec<Cow<'a, [u8]>>,
         answers: [String; HEADINGS.len()],
         extra: Fields<'a>,
-    ) -> io::Result<()> {
+    ) {
         fields.resize(columns.width(), Cow::Borrowed(b""));
         for (number, answer) in answers.into_iter().enumerate() {
             let answer = Cow::Owned(answer.into_bytes());
@@ -57,24 +59,10 @@ impl<W: Write> AnswerColumns<W> {
                 None => fields.push(answer),
             }
         }
-        self.write_fields(fields.into_iter().chain(extra), columns.separator)
+        self.add_fields(fields.into_iter().chain(extra), columns.separator);
     }
 
-    /// A line that is no row. Its own quotes stay, unless a field of it has to be kept from being a formula.
-    fn write_as_it_stood(&mut self, line: &[u8], separator: u8) -> io::Result<()> {
-        let fields = Fields::of(line, separator);
-        let as_text = |field| kept_as_text(field, separator);
-        if fields.clone().eq(fields.clone().map(as_text)) {
-            return self.write_line(line);
-        }
-        self.write_fields(fields, separator)
-    }
-
-    fn write_fields<'a>(
-        &mut self,
-        fields: impl Iterator<Item = Cow<'a, [u8]>>,
-        separator: u8,
-    ) -> io::Result<()> {
+    fn add_fields<'a>(&mut self, fields: impl Iterator<Item = Cow<'a, [u8]>>, separator: u8) {
         let mut line = Vec::new();
         for (i, field) in fields.enumerate() {
             if i > 0 {
@@ -82,67 +70,68 @@ impl<W: Write> AnswerColumns<W> {
             }
             fields::append(&mut line, &kept_as_text(field, separator), separator);
         }
-        self.write_line(&line)
+        self.add_line(&line);
     }
 
-    fn write_line(&mut self, line: &[u8]) -> io::Result<()> {
+    fn add_line(&mut self, line: &[u8]) {
         match self.lettering {
             Lettering::Encoded(encoding) => {
-                self.output.write_all(&encoding.encoded(line))?;
-                self.output.write_all(&encoding.encoded(b"\n"))
+                self.output.extend_from_slice(&encoding.encoded(line));
+                self.output.extend_from_slice(&encoding.encoded(b"\n"));
             }
             Lettering::Visible => {
                 let text = String::from_utf8_lossy(line);
                 let text: String = text.chars().map(visible_but_tab).collect();
-                writeln!(self.output, "{text}")
+                self.output.extend_from_slice(text.as_bytes());
+                self.output.push(b'\n');
             }
         }
     }
 }
 
-impl<W: Write> Report for AnswerColumns<W> {
+impl Report for AnswerColumns {
     /// A sheet without a header gets one.
-    fn begin(&mut self, opening: &Opening) -> io::Result<()> {
+    fn begin(&mut self, opening: &Opening) {
         if let Lettering::Encoded(encoding) = self.lettering {
-            self.output.write_all(encoding.mark())?;
+            self.output.extend_from_slice(encoding.mark());
         }
         let columns = &opening.columns;
         for line in &opening.above {
-            self.write_as_it_stood(line.text, columns.separator)?;
+            self.add_fields(Fields::of(line.text, columns.separator), columns.separator);
         }
         match &opening.header {
             Some(header) => {
                 let (own, extra) = columns.split(header.text);
                 let answers = answer_headings(columns, &own);
-                self.write(columns, own, answers, extra)
+                self.add(columns, own, answers, extra);
             }
             None => {
                 let own = columns
                     .iter()
                     .map(|column| Cow::Borrowed(heading(column).as_bytes()));
                 let answers = HEADINGS.map(str::to_owned);
-                self.write(columns, own.collect(), answers, Fields::none())
+                self.add(columns, own.collect(), answers, Fields::none());
             }
         }
     }
 
-    fn blank(&mut self, line: &[u8]) -> io::Result<()> {
-        self.write_line(line)
+    fn blank(&mut self, line: &[u8]) {
+        self.add_line(line);
     }
 
-    fn row(&mut self, row: &SheetRow) -> io::Result<Outcome> {
+    fn row(&mut self, row: &SheetRow) -> Outcome {
         let judged = row.judged();
-        self.write(
+        self.add(
             row.columns,
             row.fields.clone(),
             answers(judged),
             row.extra.clone(),
-        )?;
-        Ok(Outcome::of_judged(judged))
+        );
+        Outcome::of_judged(judged)
     }
 
-    fn end(&mut self) -> io::Result<()> {
-        self.output.flush()
+    fn finish(self) -> Vec<u8> {
+        self.output
     }
 }
 

@@ -99,15 +99,13 @@ fn unmarked(bytes: &[u8]) -> Letters {
     }
 }
 
-/// Whether the bytes at even places (0) or at odd ones (1) are the higher halves of Latin and Cyrillic letters: nine in
-/// ten at least, and some of Latin ones, as all digits and separators are.
+/// Whether nine in ten of the bytes at even places (0) or at odd ones (1) are the higher halves of Latin or Cyrillic letters.
 fn are_high_halves(bytes: &[u8], place: usize) -> bool {
     const LATIN: u8 = 0;
     const CYRILLIC: u8 = 4;
     let halves = bytes.chunks_exact(2).map(|unit| unit[place]);
     let of_either = |half: &u8| matches!(*half, LATIN | CYRILLIC);
-    halves.clone().any(|half| half == LATIN)
-        && halves.clone().filter(of_either).count() * 10 >= halves.len() * 9
+    halves.clone().filter(of_either).count() * 10 >= halves.len() * 9
 }
 
 /// Whether letters beyond ASCII are sequences of UTF-8 more often than they are broken ones.

@@ -30,33 +30,36 @@ impl<'a> Fields<'a> {
 impl<'a> Iterator for Fields<'a> {
     type Item = Cow<'a, [u8]>;
 
+    /// A field whose quote is not closed, or is followed by more text, keeps its quotes: it is no number.
     fn next(&mut self) -> Option<Cow<'a, [u8]>> {
         let rest = self.rest?;
-        let (quoted, after) = match rest.strip_prefix(b"\"") {
-            Some(inside) => {
-                let (content, after) = unquoted(inside);
-                (Some(content), after)
-            }
-            None => (None, rest),
+        let quoted = match rest.strip_prefix(b"\"") {
+            None => None,
+            Some(inside) => match unquoted(inside) {
+                Some(quoted) => Some(quoted),
+                None => {
+                    self.rest = None;
+                    return Some(Cow::Borrowed(rest));
+                }
+            },
         };
+        let after = quoted.as_ref().map_or(rest, |(_, after)| after);
         let end = after.iter().position(|&byte| byte == self.separator);
         self.rest = end.map(|at| &after[at + 1..]);
-        let plain = &after[..end.unwrap_or(after.len())];
+        let tail = &after[..end.unwrap_or(after.len())];
         Some(match quoted {
-            Some(mut content) => {
-                content.extend_from_slice(plain);
-                Cow::Owned(content)
-            }
-            None => Cow::Borrowed(plain),
+            Some((content, _)) if is_empty(tail) => Cow::Owned(content),
+            _ => Cow::Borrowed(&rest[..rest.len() - after.len() + tail.len()]),
         })
     }
 }
 
-/// The content up to the closing quote, doubled quotes taken for one, and what follows; without a closing quote, all.
-fn unquoted(inside: &[u8]) -> (Vec<u8>, &[u8]) {
+/// The content up to the closing quote, doubled quotes taken for one, and what follows, if there is a closing quote.
+fn unquoted(inside: &[u8]) -> Option<(Vec<u8>, &[u8])> {
     let mut content = Vec::new();
     let mut rest = inside;
-    while let Some(at) = rest.iter().position(|&byte| byte == b'"') {
+    loop {
+        let at = rest.iter().position(|&byte| byte == b'"')?;
         content.extend_from_slice(&rest[..at]);
         rest = &rest[at + 1..];
         match rest.strip_prefix(b"\"") {
@@ -64,11 +67,9 @@ fn unquoted(inside: &[u8]) -> (Vec<u8>, &[u8]) {
                 content.push(b'"');
                 rest = after;
             }
-            None => return (content, rest),
+            None => return Some((content, rest)),
         }
     }
-    content.extend_from_slice(rest);
-    (content, &[])
 }
 
 /// Whether a field has no content.
@@ -76,10 +77,10 @@ pub fn is_empty(field: &[u8]) -> bool {
     field.iter().all(u8::is_ascii_whitespace)
 }
 
-/// Whether a line has no content: empty, or separators and nothing else, as spreadsheets save an empty row.
+/// Whether a line has no content: empty, or separators and empty quotes, as spreadsheets save an empty row.
 pub fn is_blank(line: &[u8]) -> bool {
     line.iter()
-        .all(|byte| byte.is_ascii_whitespace() || SEPARATORS.contains(byte))
+        .all(|byte| byte.is_ascii_whitespace() || *byte == b'"' || SEPARATORS.contains(byte))
 }
 
 /// Appends a field, in quotes where its content asks for them.

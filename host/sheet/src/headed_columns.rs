@@ -1,14 +1,16 @@
 //! Which columns a header heads, or what is wrong with its headings.
 use crate::answer_columns::HEADINGS;
 use crate::columns::{Basis, Column, Columns};
-use crate::fields::Fields;
-use crate::header::{filled_keys, has_number, texts};
+use crate::header::{filled_keys, texts};
 use crate::headings::{self, Heading, Meaning};
 use crate::text::shown;
-use crate::{heading_list, units, words};
+use crate::{heading_list, heading_names, words};
 
 /// How much of a heading is quoted.
 const QUOTED: usize = 40;
+
+/// So many problems are listed, and the others counted.
+const MOST_PROBLEMS: usize = 30;
 
 /// The columns below a header; an error that lists everything wrong with its headings.
 pub fn columns(header: &[u8], separator: u8, skip: &[String]) -> Result<Columns, String> {
@@ -29,37 +31,13 @@ pub fn columns(header: &[u8], separator: u8, skip: &[String]) -> Result<Columns,
     Ok(Columns::new(separator, basis, columns))
 }
 
-/// For a line of units below the header: the first that is not its cell's.
-pub fn other_unit_in(line: &[u8], columns: &Columns) -> Option<String> {
-    if has_number(line, columns.separator) {
-        return None;
-    }
-    let fields = Fields::of(line, columns.separator);
-    let mut numbered = columns.iter().zip(fields).enumerate();
-    numbered.find_map(|(place, (column, field))| {
-        let text = String::from_utf8_lossy(&field);
-        let problem = match column {
-            Column::Holds(Heading::Cell(cell)) if is_other_unit(&text, cell) => other_unit(cell),
-            _ => return None,
-        };
-        Some(in_column(place, &text, &problem))
-    })
-}
-
-/// Whether a text is a unit, no blank or dash, and not that of the cell.
-fn is_other_unit(text: &str, cell: usize) -> bool {
-    let unit = headings::words_of(text);
-    let own = words::cell_words(cell).map_or("", |words| words.unit);
-    units::is_any(&unit) && !units::is("", &unit) && !units::is(own, &unit)
-}
-
 fn column(text: &str, skipped: &[String]) -> Result<Column, String> {
     match headings::read(text) {
         Meaning::Empty => Ok(Column::Unheaded),
         Meaning::Known(answer @ Heading::Answer(_)) => Ok(Column::Holds(answer)),
         _ if skipped.contains(&headings::key(text)) => Ok(Column::Skipped),
         Meaning::Known(heading) => Ok(Column::Holds(heading)),
-        Meaning::OtherUnit(cell) => Err(other_unit(cell)),
+        Meaning::OtherUnit(cell) => Err(words::unit_wanted(cell)),
         Meaning::Unknown => Err("not a known heading".to_owned()),
     }
 }
@@ -106,14 +84,6 @@ fn in_column(place: usize, text: &str, problem: &str) -> String {
     )
 }
 
-fn other_unit(cell: usize) -> String {
-    match words::cell_words(cell) {
-        Some(words) if words.unit.is_empty() => format!("{} has no unit", words.name),
-        Some(words) => format!("{} has to be in {}", words.name, words.unit),
-        None => format!("not the unit of cell {cell}"),
-    }
-}
-
 fn doubled(heading: Heading, earlier: usize, text: &str) -> String {
     let what = match heading {
         Heading::Cell(cell) => words::cell_words(cell).map_or("the cell", |words| words.name),
@@ -128,9 +98,57 @@ fn doubled(heading: Heading, earlier: usize, text: &str) -> String {
 }
 
 fn message(problems: &[String]) -> String {
+    let further = match problems.len().checked_sub(MOST_PROBLEMS) {
+        Some(more) if more > 0 => format!("\n  and {more} more"),
+        _ => String::new(),
+    };
+    let first = &problems[..problems.len().min(MOST_PROBLEMS)];
     format!(
-        "its headings are not clear\n  {}\nA column of your own is passed over with --skip HEADING. Known headings:\n{}",
-        problems.join("\n  "),
+        "its headings are not clear\n  {}{further}\nA column of your own is passed over with --skip HEADING. Known headings:\n{}",
+        first.join("\n  "),
         heading_list::all().trim_end()
     )
+}
+
+/// What a person should know of headings that are known, but may have been meant otherwise: n, m and q for N, M and Q.
+pub fn notes(header: &[u8], columns: &Columns) -> Vec<String> {
+    let texts = texts(header, columns.separator);
+    let taken = columns.iter().zip(&texts).enumerate();
+    taken
+        .filter_map(|(place, (column, text))| match column {
+            Column::Holds(Heading::Cell(cell)) if is_small_letter(text, cell) => {
+                let name = words::cell_words(cell).map_or("", |words| words.name);
+                Some(in_column(place, text, &format!("taken for {name}")))
+            }
+            _ => None,
+        })
+        .collect()
+}
+
+/// Whether a heading is the small letter of a cell whose symbol is the capital one.
+fn is_small_letter(text: &str, cell: usize) -> bool {
+    let symbol = heading_names::CELLS[cell - 1].symbol;
+    let text = text.trim();
+    text.chars().count() == 1
+        && text != text.to_uppercase()
+        && symbol.chars().all(char::is_uppercase)
+}
+
+/// What a person should know of headings that name other cells than their columns hold: the first of them.
+pub fn contradiction(header: &[u8], columns: &Columns) -> Option<String> {
+    let texts = texts(header, columns.separator);
+    let mut taken = columns.iter().zip(&texts).enumerate();
+    taken.find_map(|(place, (column, text))| {
+        let Column::Holds(Heading::Cell(cell)) = column else {
+            return None;
+        };
+        let is_contradicted = match headings::read(text) {
+            Meaning::Known(heading) => heading != Heading::Cell(cell),
+            Meaning::OtherUnit(_) => true,
+            Meaning::Empty | Meaning::Unknown => false,
+        };
+        let name = words::cell_words(cell)?.name;
+        let problem = format!("taken for {name}, as the order has it");
+        is_contradicted.then(|| in_column(place, text, &problem))
+    })
 }

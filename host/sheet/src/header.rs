@@ -5,13 +5,13 @@ use crate::headings::{self, Heading, Meaning};
 use crate::separator;
 use std::collections::HashSet;
 
-/// A longer line is no header: no program writes so many columns.
-const LONGEST: usize = 1 << 16;
+/// A longer line is no header: no spreadsheet has so many columns.
+const LONGEST: usize = 1 << 20;
 
 /// One known heading may be chance, as in a member that is called B and has nothing else filled.
 const FEWEST_KNOWN: usize = 2;
 
-/// So many are no chance any more, not even beside numbers.
+/// So many are no chance any more, not even beside numbers or inside a quote that is not closed.
 const CERTAIN: usize = 3;
 
 /// A line that is a header.
@@ -33,22 +33,37 @@ pub fn found_in(line: &[u8], separators: &[u8]) -> Option<Found> {
         .max_by_key(|found| found.known)
 }
 
-/// Whether a line would be a header, were it not for a number among its headings.
+/// Whether a line that is no header would be one, were it not for a number or a quote among its headings.
 pub fn is_spoilt(line: &[u8], separators: &[u8]) -> bool {
-    line.len() <= LONGEST
-        && separators.iter().any(|separator| {
-            known_headings(line, *separator) >= CERTAIN && has_number(line, *separator)
-        })
+    if line.len() > LONGEST {
+        return false;
+    }
+    let bare: Vec<u8> = line.iter().copied().filter(|byte| *byte != b'"').collect();
+    separators
+        .iter()
+        .any(|separator| known_headings(&bare, *separator) >= CERTAIN)
 }
 
-/// Whether a line below is a header that heads other columns: those of another table, or of one that was not found.
-pub fn contradicts(line: &[u8], columns: &Columns) -> bool {
-    let own = match &columns.basis {
-        Basis::Asked => return false,
-        Basis::NoHeader => &[][..],
-        Basis::Headings(keys) => &keys[..],
-    };
-    is_header(line, columns.separator) && filled_keys(&texts(line, columns.separator)) != own
+/// What a line below the header is.
+#[derive(Clone, Copy, PartialEq, Eq)]
+pub enum Below {
+    Row,
+    /// The sheet's own header, as at the top of a further page.
+    Repeated,
+    /// A header of other columns: those of another table, or of one that was not found.
+    Another,
+}
+
+pub fn below(line: &[u8], columns: &Columns) -> Below {
+    let separator = columns.separator;
+    if !is_header(line, separator) && !is_spoilt(line, &[separator]) {
+        return Below::Row;
+    }
+    let keys = filled_keys(&texts(line, separator));
+    match columns.basis == Basis::Headings(keys) {
+        true => Below::Repeated,
+        false => Below::Another,
+    }
 }
 
 /// For a header below rows.

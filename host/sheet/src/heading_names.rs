@@ -1,6 +1,6 @@
 //! What drafters call a column, in English and Russian.
 //!
-//! A word that may mean two cells names one only beside its symbol, as "force N", or none, as "толщина" and "длина".
+//! A word that may mean two things names a cell only beside its symbol, as "force N", or none, as "length" and "row".
 use lvl_addin::row;
 
 pub const MEMBER: &[&str] = &[
@@ -63,13 +63,13 @@ pub const CELLS: [CellNames; row::CELLS] = [
            &["length", "effective length", "длина", "расчётная длина"]),
     symbol("Lb", &["effective length across b", "расчётная длина поперёк b"],
            &["length", "effective length", "длина", "расчётная длина"]),
-    words(&["row", "Table 16 row", "row of Table 16", "Table 16", "строка таблицы 16", "строка табл. 16",
+    words(&["Table 16 row", "row of Table 16", "Table 16", "строка таблицы 16", "строка табл. 16",
             "таблица 16 строка", "табл. 16 строка", "таблица 16", "табл. 16"]),
     symbol("a", &["side piece", "side piece thickness", "накладка", "толщина накладки"], &["thickness", "толщина"]),
     symbol("d", &["diameter", "dowel diameter", "диаметр", "диаметр нагеля", "диаметр нагелей"], &[]),
     symbol("r", &["dowels across", "нагелей поперёк", "число нагелей поперёк", "нагелей в ряду",
                   "число нагелей в ряду"], &[]),
-    words(&["length", "joint length", "length of joint", "длина соединения", "длина стыка"]),
+    words(&["joint length", "length of joint", "длина соединения", "длина стыка"]),
     symbol("kc", &["смятие среднего элемента"], &["Table 18", "коэффициент"]),
     symbol("ka", &["смятие крайнего элемента"], &["Table 18", "коэффициент"]),
     symbol("kb", &[], &["Table 18", "коэффициент", "изгиб нагеля"]),

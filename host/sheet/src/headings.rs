@@ -89,8 +89,9 @@ fn named(name: &[String], unit: &[String]) -> Option<Meaning> {
     units::is_any(unit).then_some(Meaning::OtherUnit(cell))
 }
 
-/// A heading's words in small letters, without what only parts them.
+/// A heading's words in small letters, without what only parts them, and without the apostrophe that keeps a formula text.
 pub fn words_of(text: &str) -> Vec<String> {
+    let text = text.strip_prefix('\'').unwrap_or(text);
     let mut words = vec![String::new()];
     for letter in text.chars().flat_map(char::to_lowercase) {
         match letter {

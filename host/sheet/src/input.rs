@@ -15,11 +15,12 @@ pub enum Source {
 /// No spreadsheet saves as much: its sheets end at 1,048,576 rows. A file without an end ends here too.
 const MOST_BYTES: u64 = 1 << 28;
 
-/// How a workbook begins: a ZIP archive (.xlsx, .ods), an empty one, a compound file (.xls).
-const WORKBOOKS: [&[u8]; 3] = [
+/// How a workbook begins: a ZIP archive (.xlsx, .ods), an empty one, a compound file (.xls), XML (.fods and Excel's of 2003).
+const WORKBOOKS: [&[u8]; 4] = [
     b"PK\x03\x04",
     b"PK\x05\x06",
     b"\xD0\xCF\x11\xE0\xA1\xB1\x1A\xE1",
+    b"<?xml",
 ];
 
 impl Source {

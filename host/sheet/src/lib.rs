@@ -1,5 +1,4 @@
 //! A sheet of members, judged or packed row by row. All judgement is the add-in's; what stands here reads and writes.
-use std::io;
 
 pub mod answer_columns;
 pub mod columns;
@@ -26,11 +25,13 @@ pub mod separator;
 pub mod table;
 pub mod tally;
 pub mod text;
+pub mod unit_lines;
 pub mod units;
 pub mod windows_1251;
 pub mod words;
 
-use columns::{ColumnOptions, Columns};
+use columns::{Basis, ColumnOptions, Columns};
+use header::Below;
 use lines::{Line, Shape};
 use opening::Opening;
 use progress::Progress;
@@ -38,67 +39,73 @@ use row::{Outcome, SheetRow};
 use tally::Tally;
 
 /// What is made of a sheet, row by row.
-pub trait Report {
+pub trait Report: Sized {
     /// Once, before the rows.
-    fn begin(&mut self, _: &Opening) -> io::Result<()> {
-        Ok(())
-    }
+    fn begin(&mut self, _: &Opening) {}
     /// For a line without content.
-    fn blank(&mut self, _: &[u8]) -> io::Result<()> {
-        Ok(())
-    }
+    fn blank(&mut self, _: &[u8]) {}
     /// For each row.
-    fn row(&mut self, row: &SheetRow) -> io::Result<Outcome>;
-    /// Once, after the rows.
-    fn end(&mut self) -> io::Result<()>;
+    fn row(&mut self, row: &SheetRow) -> Outcome;
+    /// All that was made.
+    fn finish(self) -> Vec<u8>;
 }
 
-/// Why a sheet was not gone through to its end.
-#[derive(Debug)]
-pub enum Stop {
-    Write(io::Error),
-    /// It is not clear which column holds what.
-    Columns(String),
-}
-
-/// Reports every row of a sheet's text.
+/// Makes a report of every row of a sheet's text; an error where it is not clear which column holds what.
 pub fn go_through(
     text: &[u8],
     options: &ColumnOptions,
-    report: &mut impl Report,
+    mut report: impl Report,
     progress: &mut Progress,
-) -> Result<Tally, Stop> {
+) -> Result<(Tally, Vec<u8>), String> {
     let mut tally = Tally::default();
-    let Some(opening) = Opening::of(text, options).map_err(Stop::Columns)? else {
-        return Ok(tally);
-    };
-    notes::show(&opening.notes);
-    report.begin(&opening).map_err(Stop::Write)?;
-    let columns = &opening.columns;
-    let mut lines = opening.rows;
-    while let Some(line) = lines.next_line(Shape::In(columns)) {
-        if let Some(outcome) = report_line(&line, columns, report)? {
-            tally.count(outcome);
+    if let Some(opening) = Opening::of(text, options)? {
+        notes::show(&opening.notes);
+        report.begin(&opening);
+        let columns = &opening.columns;
+        let mut lines = opening.rows;
+        let mut last = None;
+        while let Some(line) = lines.next_line(Shape::In(columns)) {
+            if fields::is_blank(line.text) {
+                report.blank(line.text);
+                continue;
+            }
+            tally.count(report.row(&clear_row(&line, columns)?));
             progress.rows(tally.rows);
+            last = Some(line);
         }
+        notes::show(
+            last.and_then(|line| cut_off(&line, text, columns))
+                .as_slice(),
+        );
     }
-    report.end().map_err(Stop::Write)?;
-    Ok(tally)
+    Ok((tally, report.finish()))
 }
 
-/// What became of a line's row, if it is one.
-fn report_line(
-    line: &Line,
-    columns: &Columns,
-    report: &mut impl Report,
-) -> Result<Option<Outcome>, Stop> {
-    if fields::is_blank(line.text) {
-        report.blank(line.text).map_err(Stop::Write)?;
-        return Ok(None);
-    }
-    if header::contradicts(line.text, columns) {
-        return Err(Stop::Columns(header::further_down(line.number)));
-    }
+/// The row that a line holds, unless it says that the columns hold something else.
+fn clear_row<'a>(line: &Line<'a>, columns: &'a Columns) -> Result<SheetRow<'a>, String> {
     let row = SheetRow::read(line, columns);
-    report.row(&row).map(Some).map_err(Stop::Write)
+    // Where the order of the cells was asked for, every line is a row.
+    if columns.basis == Basis::Asked || !row.has_text_for_numbers() {
+        return Ok(row);
+    }
+    match header::below(line.text, columns) {
+        Below::Another => Err(header::further_down(line.number)),
+        Below::Repeated => Ok(row),
+        Below::Row => unit_lines::below_header(line, columns).map_or(Ok(row), Err),
+    }
+}
+
+/// What a person should know of a last line that is shorter than the header and has no end.
+fn cut_off(line: &Line, text: &[u8], columns: &Columns) -> Option<String> {
+    let is_ended = text.ends_with(b"\n") || text.ends_with(b"\r");
+    let is_headed = matches!(columns.basis, Basis::Headings(_));
+    let (fields, _) = columns.split(line.text);
+    (is_headed && !is_ended && fields.len() < columns.width()).then(|| {
+        format!(
+            "line {}, the last, has no line end and stops in column {} of {}: if the file was cut off, so was its last number",
+            line.number,
+            fields.len(),
+            columns.width()
+        )
+    })
 }

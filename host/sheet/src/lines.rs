@@ -1,13 +1,15 @@
 //! The lines of a text, whatever ends them: line feed, carriage return or both.
 //!
-//! A quoted field may hold line breaks; its line then reaches over several. A quote that is not closed in the way of RFC 4180,
-//! that stands where a number has to, or that would swallow a member before it is closed, holds none: it spoils its own line
-//! and no other.
+//! A quoted field may hold line breaks; its line then reaches over several. One quote too few must not swallow the members below:
+//! a quote that is not closed in the way of RFC 4180, that stands where a number has to, that would hold a member or a header, or
+//! after which a member would lose its columns, counts as never closed.
 use crate::columns::{is_number, Columns};
-use crate::fields::{self, Fields};
+use crate::fields::Fields;
+use crate::header;
+use std::ops::Range;
 use std::slice;
 
-/// A quote that holds a line with so many numbers was to be closed before them.
+/// A line with so many numbers is a member's.
 const NUMBERS_OF_A_MEMBER: usize = 3;
 
 /// What is known of a line's fields before it is read.
@@ -48,13 +50,7 @@ impl<'a> Lines<'a> {
         if self.rest.is_empty() {
             return None;
         }
-        let mut end = end_of_fields(self.rest, shape);
-        let first_end = end_of_line(self.rest, 0);
-        // A quote of the line below may seem to close one of this, and all else of that line to follow.
-        if end > first_end && !shape.has_room_for(&self.rest[..end]) {
-            end = first_end;
-        }
-        let (text, rest) = self.rest.split_at(end);
+        let (text, rest) = self.rest.split_at(end_of_fields(self.rest, shape));
         let line = Line {
             number: self.ends + 1,
             text,
@@ -77,18 +73,25 @@ impl Shape<'_> {
     fn is_text(&self, place: usize) -> bool {
         match self {
             Shape::Separated(_) => true,
-            Shape::In(columns) => !columns.is_cell(place),
+            Shape::In(columns) => place < columns.width() && !columns.is_cell(place),
         }
     }
 
-    /// Whether no field further right than the columns is filled.
-    fn has_room_for(&self, line: &[u8]) -> bool {
-        match self {
-            Shape::Separated(_) => true,
-            Shape::In(columns) => Fields::of(line, columns.separator)
-                .skip(columns.width())
-                .all(|field| fields::is_empty(&field)),
-        }
+    /// Whether the line in which a field at this place is closed is a member by itself, whose numbers stand in more columns of
+    /// cells than after this field.
+    fn is_member_apart(&self, place: usize, line: &[u8], after_field: &[u8]) -> bool {
+        let Shape::In(columns) = self else {
+            return false;
+        };
+        let is_number = |field: &[u8]| is_number(field, columns.separator);
+        let numbers_from = |place: usize, fields: &[u8]| {
+            (place..)
+                .zip(Fields::of(fields, columns.separator))
+                .filter(|(place, field)| columns.is_cell(*place) && is_number(field))
+                .count()
+        };
+        let apart = numbers_from(0, line);
+        apart >= NUMBERS_OF_A_MEMBER && apart > numbers_from(place, after_field)
     }
 }
 
@@ -103,9 +106,7 @@ fn end_of_fields(text: &[u8], shape: Shape) -> usize {
             let inside = field + 1;
             match closing_quote(text, inside) {
                 Some(close) if close < end => after = close + 1,
-                Some(close)
-                    if shape.is_text(place) && is_one_field(text, inside, close, separators) =>
-                {
+                Some(close) if holds_breaks(text, inside..close, place, shape) => {
                     after = close + 1;
                     end = end_of_line(text, after);
                 }
@@ -135,24 +136,33 @@ fn closing_quote(text: &[u8], inside: usize) -> Option<usize> {
     }
 }
 
-/// Whether what stands between two quotes of different lines is one field.
-fn is_one_field(text: &[u8], inside: usize, close: usize, separators: &[u8]) -> bool {
-    let is_closed = match text.get(close + 1) {
-        Some(next) => is_end(next) || separators.contains(next),
+/// Whether what stands between two quotes of different lines is the field at this place.
+fn holds_breaks(text: &[u8], inside: Range<usize>, place: usize, shape: Shape) -> bool {
+    let after = inside.end + 1;
+    let is_closed = match text.get(after) {
+        Some(next) => is_end(next) || shape.separators().contains(next),
         None => true,
     };
-    is_closed
-        && !text[inside..close]
-            .split(is_end)
-            .any(|line| looks_like_a_member(line, separators))
+    let last_line = text[..inside.end]
+        .iter()
+        .rposition(is_end)
+        .map_or(0, |at| at + 1);
+    let end = end_of_line(text, after);
+    let swallowed = text[inside].split(is_end);
+    shape.is_text(place)
+        && is_closed
+        && !swallowed.into_iter().any(|line| is_no_text(line, shape))
+        && !shape.is_member_apart(place, &text[last_line..end], &text[after..end])
 }
 
-fn looks_like_a_member(line: &[u8], separators: &[u8]) -> bool {
-    separators.iter().any(|separator| {
+/// Whether a line is a member's or a header.
+fn is_no_text(line: &[u8], shape: Shape) -> bool {
+    let is_member = |separator: &u8| {
         let fields = line.split(|byte| byte == separator);
         let numbers = fields.filter(|field| is_number(field, *separator));
         numbers.take(NUMBERS_OF_A_MEMBER).count() == NUMBERS_OF_A_MEMBER
-    })
+    };
+    shape.separators().iter().any(is_member) || header::found_in(line, shape.separators()).is_some()
 }
 
 fn is_end(byte: &u8) -> bool {

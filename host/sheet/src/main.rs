@@ -3,13 +3,13 @@ use lvl_sheet::answer_columns::{AnswerColumns, Lettering};
 use lvl_sheet::encoding::Encoding;
 use lvl_sheet::input;
 use lvl_sheet::options::{self, Command, Destination, Form, Request};
-use lvl_sheet::output::{self, NewFile};
+use lvl_sheet::output;
 use lvl_sheet::packed_rows::PackedRows;
 use lvl_sheet::progress::Progress;
 use lvl_sheet::table::Table;
 use lvl_sheet::tally::Tally;
 use lvl_sheet::text::shown_path;
-use lvl_sheet::{go_through, notes, Stop};
+use lvl_sheet::{go_through, notes};
 use std::io::{self, ErrorKind, IsTerminal, Write};
 use std::process::ExitCode;
 
@@ -45,80 +45,63 @@ fn help() -> u8 {
     }
 }
 
-/// Reads the sheet, answers it, and shows the count.
+/// Reads the sheet, answers it as a whole, and shows the count: below the table, otherwise on the error output.
 fn answered(request: &Request) -> Result<Tally, Failure> {
     let to_standard_output = request.destination == Destination::StandardOutput;
     let bytes = input::read(&request.source, to_standard_output)
         .map_err(|problem| of_sheet(request, &problem))?;
-    let encoding = Encoding::of(&bytes);
-    notes::show(encoding.note().as_slice());
-    let text = encoding.decoded(&bytes);
-    match &request.destination {
-        Destination::StandardOutput => {
-            let lettering = match io::stdout().is_terminal() {
-                true => Lettering::Visible,
-                false => Lettering::Encoded(encoding),
-            };
-            let lost = |error| lost("the answers", error);
-            let mut output = output::standard_output();
-            let tally = reported(&text, request, &mut output, lettering, lost)?;
-            output.flush().map_err(lost)?;
-            Ok(tally)
-        }
-        Destination::File(path) => {
-            let name = shown_path(path);
-            let lost = |error| lost(&name, error);
-            let mut output = NewFile::create(path).map_err(lost)?;
-            let lettering = Lettering::Encoded(encoding);
-            let tally = reported(&text, request, &mut output, lettering, lost)?;
-            output.replace().map_err(lost)?;
-            Ok(tally)
-        }
+    let (tally, mut answers) =
+        gone_through(&bytes, request).map_err(|problem| of_sheet(request, &problem))?;
+    if tally.rows == 0 {
+        return Err(of_sheet(request, "there are no rows"));
     }
-}
-
-/// Writes the answers in the form asked for, and the count: below the table, otherwise to the error output.
-fn reported(
-    text: &[u8],
-    request: &Request,
-    output: &mut impl Write,
-    lettering: Lettering,
-    lost: impl Fn(io::Error) -> Failure,
-) -> Result<Tally, Failure> {
-    let tally = match gone_through(text, request, output, lettering) {
-        Ok(tally) if tally.rows == 0 => return Err(of_sheet(request, "there are no rows")),
-        Ok(tally) => tally,
-        Err(Stop::Columns(problem)) => return Err(of_sheet(request, &problem)),
-        Err(Stop::Write(error)) => return Err(lost(error)),
-    };
+    if request.form == Form::Table {
+        answers.extend(format!("\n{}\n", tally.judged()).into_bytes());
+    }
+    deliver(&answers, &request.destination)?;
     match request.form {
-        Form::Table => writeln!(output, "\n{}", tally.judged()).map_err(lost)?,
+        Form::Table => {}
         Form::Csv => notes::say(&tally.judged()),
         Form::Packed => notes::say(&tally.packed()),
     }
     Ok(tally)
 }
 
-fn gone_through(
-    text: &[u8],
-    request: &Request,
-    output: &mut impl Write,
-    lettering: Lettering,
-) -> Result<Tally, Stop> {
+/// The answers in the form asked for; an error where the sheet is not clear.
+fn gone_through(bytes: &[u8], request: &Request) -> Result<(Tally, Vec<u8>), String> {
+    let encoding = Encoding::of(bytes);
+    notes::show(encoding.note().as_slice());
+    let text = encoding.decoded(bytes);
     let columns = &request.columns;
-    // Rows that run over a terminal are progress enough.
-    let is_watched = io::stderr().is_terminal() && !io::stdout().is_terminal();
-    let mut progress = Progress::new(is_watched);
-    let tally = match request.form {
-        Form::Table => go_through(text, columns, &mut Table::new(output), &mut progress),
+    let progress = &mut Progress::new(io::stderr().is_terminal());
+    let answers = match request.form {
+        Form::Table => go_through(&text, columns, Table::default(), progress),
         Form::Csv => {
-            let mut report = AnswerColumns::new(output, lettering);
-            go_through(text, columns, &mut report, &mut progress)
+            let report = AnswerColumns::new(lettering(encoding, &request.destination));
+            go_through(&text, columns, report, progress)
         }
-        Form::Packed => go_through(text, columns, &mut PackedRows::new(output), &mut progress),
+        Form::Packed => go_through(&text, columns, PackedRows::default(), progress),
     };
     progress.clear();
-    tally
+    answers
+}
+
+fn lettering(encoding: Encoding, destination: &Destination) -> Lettering {
+    match destination {
+        Destination::StandardOutput if io::stdout().is_terminal() => Lettering::Visible,
+        _ => Lettering::Encoded(encoding),
+    }
+}
+
+fn deliver(answers: &[u8], destination: &Destination) -> Result<(), Failure> {
+    match destination {
+        Destination::StandardOutput => {
+            output::to_standard_output(answers).map_err(|error| lost("the answers", error))
+        }
+        Destination::File(path) => {
+            output::to_file(path, answers).map_err(|error| lost(&shown_path(path), error))
+        }
+    }
 }
 
 fn of_sheet(request: &Request, problem: &str) -> Failure {

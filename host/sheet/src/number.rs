@@ -67,7 +67,7 @@ pub fn read(text: &str, mark: DecimalMark) -> Typed {
     {
         return Typed::Text;
     }
-    if exponent.is_none() && decimals.len() == 3 && may_lead_a_group(&digits) {
+    if exponent.is_none() && decimals.len() == 3 {
         return Typed::Unclear;
     }
     let exponent = exponent.unwrap_or("0");
@@ -131,11 +131,6 @@ fn without_grouping(whole: &str) -> Option<String> {
         digits.push_str(group);
     }
     is_digits(&digits).then_some(digits)
-}
-
-/// Whether a thousands mark may follow these digits.
-fn may_lead_a_group(digits: &str) -> bool {
-    (1..=3).contains(&digits.len()) && !digits.starts_with('0')
 }
 
 fn is_digits(text: &str) -> bool {

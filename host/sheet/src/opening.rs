@@ -4,7 +4,7 @@ use crate::fields::{self, Fields, SEPARATORS};
 use crate::lines::{Line, Lines, Shape};
 use crate::separator;
 use crate::text::shown;
-use crate::{headed_columns, header};
+use crate::{headed_columns, header, unit_lines};
 
 /// Among so many lines with content the header is looked for.
 pub const LOOKED_AT: usize = 30;
@@ -12,8 +12,11 @@ pub const LOOKED_AT: usize = 30;
 /// So many lines are read ahead at most, blank ones with them.
 const READ_AHEAD: usize = 10_000;
 
-/// A line above the header with so many numbers may be a member.
+/// A line above the header with so many numbers, in fields like those of the header, may be a member.
 const NUMBERS_OF_A_MEMBER: usize = 2;
+
+/// And one with so many in fields that are separated otherwise: a title may list some axes.
+const NUMBERS_IF_SEPARATED_OTHERWISE: usize = 5;
 
 /// How much of a line is quoted.
 const QUOTED: usize = 60;
@@ -131,12 +134,17 @@ fn below_header<'a>(
     } = lines[at];
     let columns = match options.by_position {
         true => Columns::in_order_below(header.text, separator, Basis::Asked),
-        false => headed(&header, separator, rows, options)?,
+        false => headed_columns::columns(header.text, separator, &options.skip)
+            .map_err(|problem| format!("line {}, the header: {problem}", header.number))?,
     };
     let titles = lines[..at].iter().filter(|ahead| !ahead.is_blank());
-    let notes = titles
-        .map(|title| pass_over(&title.line, &header, separator))
-        .collect::<Result<_, _>>()?;
+    let mut notes = titles
+        .map(|title| pass_over(&title.line, &header, &columns))
+        .collect::<Result<Vec<_>, _>>()?;
+    notes.extend(match options.by_position {
+        true => Vec::from_iter(headed_columns::contradiction(header.text, &columns)),
+        false => headed_columns::notes(header.text, &columns),
+    });
     Ok(Opening {
         columns,
         above: lines[..at].iter().map(|ahead| ahead.line).collect(),
@@ -146,37 +154,33 @@ fn below_header<'a>(
     })
 }
 
-/// The columns that a header heads, unless it or a line of units below it is not clear.
-fn headed(
-    header: &Line,
-    separator: u8,
-    mut rows: Lines,
-    options: &ColumnOptions,
-) -> Result<Columns, String> {
-    let columns = headed_columns::columns(header.text, separator, &options.skip)
-        .map_err(|problem| format!("line {}, the header: {problem}", header.number))?;
-    let mut lines = std::iter::from_fn(|| rows.next_line(Shape::In(&columns)));
-    let first = lines.find(|line| !fields::is_blank(line.text));
-    let problem = first.and_then(|row| {
-        let problem = headed_columns::other_unit_in(row.text, &columns)?;
-        Some(format!("line {}, {problem}", row.number))
-    });
-    problem.map_or(Ok(columns), Err)
-}
-
-/// The note about a title line; an error for one that looks like a member.
-fn pass_over(line: &Line, header: &Line, separator: u8) -> Result<String, String> {
-    let numbers = Fields::of(line.text, separator).filter(|field| is_number(field, separator));
+/// The note about a title line; an error for one that looks like a member, or says that the columns are in other units.
+fn pass_over(line: &Line, header: &Line, columns: &Columns) -> Result<String, String> {
     let quoted = quoted(line);
     let number = header.number;
-    if numbers.take(NUMBERS_OF_A_MEMBER).count() == NUMBERS_OF_A_MEMBER {
+    if may_be_a_member(line, columns.separator) {
         return Err(format!(
             "{quoted} looks like a member, but stands above the header in line {number}"
         ));
     }
+    if let Basis::Headings(_) = columns.basis {
+        unit_lines::above_header(line, columns).map_or(Ok(()), Err)?;
+    }
     Ok(format!(
         "{quoted} stands above the header in line {number} and is passed over"
     ))
+}
+
+fn may_be_a_member(line: &Line, separator: u8) -> bool {
+    SEPARATORS.iter().any(|other| {
+        let enough = match *other == separator {
+            true => NUMBERS_OF_A_MEMBER,
+            false => NUMBERS_IF_SEPARATED_OTHERWISE,
+        };
+        let fields = Fields::of(line.text, *other);
+        let numbers = fields.filter(|field| is_number(field, *other));
+        numbers.take(enough).count() == enough
+    })
 }
 
 fn without_header<'a>(
@@ -214,12 +218,12 @@ fn without_header<'a>(
     })
 }
 
-/// A header with a number in it is no header, but its order may well be another than that of the cells.
+/// A header with a number or a stray quote in it is no header, but its order may well be another than that of the cells.
 fn refuse_spoilt_header(rows: &[Ahead], separators: &[u8]) -> Result<(), String> {
     let spoilt = |ahead: &&Ahead| header::is_spoilt(ahead.line.text, separators);
     match rows.iter().find(spoilt) {
         Some(ahead) => Err(format!(
-            "{} looks like a header, but a number is among its headings",
+            "{} looks like a header, but has a number or a quote that is not closed",
             quoted(&ahead.line)
         )),
         None => Ok(()),

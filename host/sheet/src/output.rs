@@ -1,69 +1,41 @@
-//! Where the answers go: to standard output, or to a file that is replaced as a whole.
+//! Where the answers go, all at once: to standard output, or to a file that is replaced as a whole.
 use std::ffi::OsString;
 use std::fs::{self, File, OpenOptions};
-use std::io::{self, BufWriter, Write};
+use std::io::{self, Write};
 use std::path::{Path, PathBuf};
 
-const BUFFER: usize = 1 << 16;
+pub fn to_standard_output(bytes: &[u8]) -> io::Result<()> {
+    let mut output = io::stdout().lock();
+    output.write_all(bytes)?;
+    output.flush()
+}
 
-/// A new file beside the one that it is to replace.
+/// Writes a new file beside the old one and puts it in that one's place when all of it is on the disk.
 ///
-/// Until it does, the old one stands as it is; if it never does, the new one is removed.
-pub struct NewFile {
-    output: BufWriter<File>,
-    beside: PathBuf,
-    target: PathBuf,
-    replaced: bool,
+/// Until then the old file stands as it is. Where that cannot be done, the new one is removed.
+pub fn to_file(path: &Path, bytes: &[u8]) -> io::Result<()> {
+    let target = behind_links(path)?;
+    let old = old_file(&target)?;
+    let beside = beside(&target)?;
+    let new = OpenOptions::new()
+        .write(true)
+        .create_new(true)
+        .open(&beside)?;
+    let replaced = written(new, old.as_ref(), bytes).and_then(|()| fs::rename(&beside, &target));
+    if replaced.is_err() {
+        let _ = fs::remove_file(&beside);
+    }
+    replaced
 }
 
-impl NewFile {
-    pub fn create(target: &Path) -> io::Result<NewFile> {
-        // A link stays, and what it leads to is replaced.
-        let target = fs::canonicalize(target).unwrap_or_else(|_| target.to_owned());
-        let old = old_file(&target)?;
-        let beside = beside(&target)?;
-        let file = OpenOptions::new()
-            .write(true)
-            .create_new(true)
-            .open(&beside)?;
-        let new = NewFile {
-            output: BufWriter::with_capacity(BUFFER, file),
-            beside,
-            target,
-            replaced: false,
-        };
-        if let Some(old) = old {
-            let permissions = old.metadata()?.permissions();
-            new.output.get_ref().set_permissions(permissions)?;
+/// A link stays, and what it leads to is replaced.
+fn behind_links(path: &Path) -> io::Result<PathBuf> {
+    match fs::canonicalize(path) {
+        Ok(target) => Ok(target),
+        Err(_) if fs::symlink_metadata(path).is_ok() => {
+            Err(io::Error::other("it is a link that leads nowhere"))
         }
-        Ok(new)
-    }
-
-    /// Puts the new file in the old one's place, when all of it is on the disk.
-    pub fn replace(mut self) -> io::Result<()> {
-        self.output.flush()?;
-        self.output.get_ref().sync_all()?;
-        fs::rename(&self.beside, &self.target)?;
-        self.replaced = true;
-        Ok(())
-    }
-}
-
-impl Write for NewFile {
-    fn write(&mut self, bytes: &[u8]) -> io::Result<usize> {
-        self.output.write(bytes)
-    }
-
-    fn flush(&mut self) -> io::Result<()> {
-        self.output.flush()
-    }
-}
-
-impl Drop for NewFile {
-    fn drop(&mut self) {
-        if !self.replaced {
-            let _ = fs::remove_file(&self.beside);
-        }
+        Err(_) => Ok(path.to_owned()),
     }
 }
 
@@ -87,7 +59,11 @@ fn beside(target: &Path) -> io::Result<PathBuf> {
     Ok(target.with_file_name(new))
 }
 
-/// Standard output, buffered.
-pub fn standard_output() -> impl Write {
-    BufWriter::with_capacity(BUFFER, io::stdout().lock())
+/// All bytes on the disk, with the permissions of the old file.
+fn written(mut new: File, old: Option<&File>, bytes: &[u8]) -> io::Result<()> {
+    if let Some(old) = old {
+        new.set_permissions(old.metadata()?.permissions())?;
+    }
+    new.write_all(bytes)?;
+    new.sync_all()
 }

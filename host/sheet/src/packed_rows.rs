@@ -2,43 +2,48 @@
 use crate::row::{Outcome, Refused, SheetRow};
 use crate::text::shown;
 use crate::{notes, reasons, Report};
-use std::io::{self, Write};
+use lvl_addin::entry;
+use lvl_addin::row::CELLS;
 
 /// How much of a member's name is shown.
 const NAME: usize = 40;
 
-pub struct PackedRows<W> {
-    output: W,
+#[derive(Default)]
+pub struct PackedRows {
+    output: Vec<u8>,
+    rows: u64,
 }
 
-impl<W: Write> PackedRows<W> {
-    pub fn new(output: W) -> PackedRows<W> {
-        PackedRows { output }
-    }
-}
-
-impl<W: Write> Report for PackedRows<W> {
-    /// A row that cannot be packed is left out, and said to be.
-    fn row(&mut self, row: &SheetRow) -> io::Result<Outcome> {
+impl Report for PackedRows {
+    /// A row that cannot be packed becomes a blank one, so that every row keeps its number, and is said to.
+    fn row(&mut self, row: &SheetRow) -> Outcome {
+        self.rows += 1;
         match row.packed() {
             Ok(bytes) => {
-                self.output.write_all(&bytes)?;
-                Ok(Outcome::Packed)
+                self.output.extend(bytes);
+                Outcome::Packed
             }
             Err(refused) => {
-                notes::show(&[left_out(refused, row)]);
-                Ok(Outcome::Refused)
+                let blank = entry::pack(&[None; CELLS]);
+                self.output.extend(blank.expect("a blank row is packed"));
+                notes::show(&[self.packed_blank(refused, row)]);
+                Outcome::Refused
             }
         }
     }
 
-    fn end(&mut self) -> io::Result<()> {
-        self.output.flush()
+    fn finish(self) -> Vec<u8> {
+        self.output
     }
 }
 
-fn left_out(refused: Refused, row: &SheetRow) -> String {
-    let name = shown(&row.name(), NAME);
-    let reason = reasons::reason(refused, row);
-    format!("line {}, \"{name}\", is not packed: {reason}", row.line)
+impl PackedRows {
+    fn packed_blank(&self, refused: Refused, row: &SheetRow) -> String {
+        let name = shown(&row.name(), NAME);
+        let reason = reasons::reason(refused, row);
+        format!(
+            "row {}, line {}, \"{name}\", is packed as a blank row: {reason}",
+            self.rows, row.line
+        )
+    }
 }

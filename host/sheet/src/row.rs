@@ -83,6 +83,12 @@ impl<'a> SheetRow<'a> {
         }
     }
 
+    /// Whether text stands where a number has to, or a quote is not closed: the line may be no row.
+    pub fn has_text_for_numbers(&self) -> bool {
+        let is_open = |field: &Cow<[u8]>| field.starts_with(b"\"");
+        self.cells.contains(&Typed::Text) || self.fields.iter().any(is_open)
+    }
+
     /// The first filled column that holds nothing known: its number in the file, from 1, and its content.
     pub fn extra_column(&self) -> Option<(usize, Cow<'a, [u8]>)> {
         let unheaded = self

@@ -4,7 +4,6 @@ use crate::row::{Outcome, Refused, SheetRow};
 use crate::text::{shown, width};
 use crate::{reasons, words, Report};
 use lvl_addin::answer::Verdict;
-use std::io::{self, Write};
 
 /// The most characters of a name that are shown.
 const NAME: usize = 40;
@@ -15,8 +14,9 @@ const LOOKED_AT: usize = 1000;
 /// Stands where there is nothing to say.
 const NONE: &str = "–";
 
-pub struct Table<W> {
-    output: W,
+#[derive(Default)]
+pub struct Table {
+    output: String,
     /// Rows whose names' width is still to be found.
     held: Vec<Line>,
     name_width: Option<usize>,
@@ -47,56 +47,49 @@ impl Line {
     }
 }
 
-impl<W: Write> Table<W> {
-    pub fn new(output: W) -> Table<W> {
-        Table {
-            output,
-            held: Vec::new(),
-            name_width: None,
-        }
-    }
-
-    /// Writes what is held, its names aligned; later rows follow at once.
-    fn release(&mut self) -> io::Result<()> {
+impl Table {
+    /// Adds what is held, its names aligned; later rows follow at once.
+    fn release(&mut self) {
         let heading = heading();
-        let names = self
-            .held
-            .iter()
-            .chain([&heading])
-            .map(|line| width(&line.name));
+        let lines = self.held.iter().chain([&heading]);
+        let names = lines.map(|line| width(&line.name));
         let name_width = names.max().unwrap_or(0);
         self.name_width = Some(name_width);
         let heading = heading.aligned(name_width);
-        writeln!(self.output, "{heading}")?;
-        writeln!(self.output, "{}", "─".repeat(width(&heading)))?;
-        for line in self.held.drain(..) {
-            writeln!(self.output, "{}", line.aligned(name_width))?;
+        self.add(&heading);
+        self.add(&"─".repeat(width(&heading)));
+        for line in std::mem::take(&mut self.held) {
+            self.add(&line.aligned(name_width));
         }
-        Ok(())
+    }
+
+    fn add(&mut self, line: &str) {
+        self.output += line;
+        self.output += "\n";
     }
 }
 
-impl<W: Write> Report for Table<W> {
-    fn row(&mut self, row: &SheetRow) -> io::Result<Outcome> {
+impl Report for Table {
+    fn row(&mut self, row: &SheetRow) -> Outcome {
         let judged = row.judged();
         let line = line(row, judged);
         match self.name_width {
-            Some(name_width) => writeln!(self.output, "{}", line.aligned(name_width))?,
+            Some(name_width) => self.add(&line.aligned(name_width)),
             None => {
                 self.held.push(line);
                 if self.held.len() == LOOKED_AT {
-                    self.release()?;
+                    self.release();
                 }
             }
         }
-        Ok(Outcome::of_judged(judged))
+        Outcome::of_judged(judged)
     }
 
-    fn end(&mut self) -> io::Result<()> {
+    fn finish(mut self) -> Vec<u8> {
         if !self.held.is_empty() {
-            self.release()?;
+            self.release();
         }
-        self.output.flush()
+        self.output.into_bytes()
     }
 }
 

@@ -52,6 +52,15 @@ pub fn cell_words(number: usize) -> Option<&'static CellWords> {
     CELLS.get(number.checked_sub(1)?)
 }
 
+/// In which unit a cell has to be.
+pub fn unit_wanted(number: usize) -> String {
+    match cell_words(number) {
+        Some(words) if words.unit.is_empty() => format!("{} has no unit", words.name),
+        Some(words) => format!("{} has to be in {}", words.name, words.unit),
+        None => format!("not the unit of cell {number}"),
+    }
+}
+
 /// The words for all cells, cell 1 first.
 pub fn cells() -> impl Iterator<Item = &'static CellWords> {
     CELLS.iter()

@@ -5,7 +5,7 @@ use std::process::{Command, Output, Stdio};
 use std::sync::atomic::{AtomicUsize, Ordering};
 
 pub const HEADER: &str =
-    "member,kind,grade,regime,moisture,factor,b,h,N,M,Q,Lh,Lb,row,a,d,r,length,kc,ka,kb,ke,km";
+    "member,kind,grade,regime,moisture,factor,b,h,N,M,Q,Lh,Lb,Table 16 row,a,d,r,joint length,kc,ka,kb,ke,km";
 pub const ROW_A: &str = "A,2,1,3,10,1000,75,300,,20000000,20000";
 pub const ROW_B: &str = "B,3,3,2,13,1000,100,200,50000,,,3000,2000,1";
 pub const ROW_E: &str =

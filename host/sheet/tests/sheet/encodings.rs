@@ -166,6 +166,7 @@ fn a_workbook_is_no_sheet() {
         &b"PK\x03\x04\x14\0\x06\0"[..],
         b"PK\x05\x06\0\0",
         b"\xD0\xCF\x11\xE0\xA1\xB1\x1A\xE1\0\0",
+        b"<?xml version=\"1.0\"?>\n",
     ] {
         let run = table([begin, HEADER.as_bytes(), b"\n", ROW_A.as_bytes()].concat());
         assert_eq!((run.code, run.out.as_str()), (2, ""));

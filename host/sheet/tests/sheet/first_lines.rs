@@ -35,7 +35,7 @@ fn a_first_member_with_rubbish_is_a_row() {
 fn title_lines_are_passed_over_with_a_note() {
     let titles =
         "Hall roof; axes 1, 2, 5\n\n\"Drawing 12\";;;;\n;Rev.;3\nName;Hall;Type;Roof\nBreite\x07;\n";
-    let sheet = [HEADER, ROW_A, ROW_B].join("\n").replace(',', ";");
+    let sheet = [HEADER, ROW_A, ROW_B, ""].join("\n").replace(',', ";");
     let run = table(format!("{titles}{sheet}"));
     assert_eq!(run.summary(), "2 rows: 2 passed, 0 failed, 0 refused");
     let end = "stands above the header in line 7 and is passed over";
@@ -86,6 +86,14 @@ fn a_member_above_the_header_stops_the_sheet() {
             run.err
         );
     }
+    // Separated otherwise than the header, with or without a header of its own.
+    let other = ROW_A.replace(',', ";");
+    let few = "kind;grade;b;h;M;Q";
+    for above in [other.clone(), format!("{few}\n{other}")] {
+        let run = table(format!("{above}\n{HEADER}\n{ROW_B}\n"));
+        assert_eq!((run.code, run.out.as_str()), (2, ""), "{}", run.err);
+        assert!(run.err.contains(" looks like a member, "), "{}", run.err);
+    }
 }
 
 #[test]
@@ -98,6 +106,7 @@ fn a_hint_sets_the_separator() {
         ("sep=\t", "\t"),
         ("\"sep=;\"", ";"),
         ("sep=;;;;;", ";"),
+        ("sep=; ", ";"),
         ("\u{feff}sep=;", ";"),
     ] {
         let sheet = [HEADER, ROW_A].join("\n").replace(',', separator);
@@ -153,6 +162,45 @@ fn a_header_with_commas_in_its_units_is_separated_as_it_reads_best() {
         "{}",
         table(few).out
     );
+}
+
+/// As many headings are known by one separator as by another: the one that the line has most of counts.
+#[test]
+fn a_header_that_reads_two_ways_is_separated_by_what_it_has_most_of() {
+    let message = table("b;N,h;N\n1;2;3\n").err;
+    assert!(
+        message.contains("column 3, \"N\": axial force N is headed twice"),
+        "{message}"
+    );
+    let message = table("b;N,h;N,,\n1,2\n").err;
+    assert!(
+        message.contains("column 1, \"b;N\": width b has to be in mm"),
+        "{message}"
+    );
+}
+
+#[test]
+fn without_a_header_an_empty_first_field_is_the_kind() {
+    let run = table(format!("{}\n{ROW_A}\n", &ROW_A[1..]));
+    assert!(
+        run.line("line 1 ").ends_with("cell 1 kind: blank"),
+        "{}",
+        run.out
+    );
+    let reason = "cell 1 kind: \"A\" is not a number";
+    assert!(run.line("line 2 ").ends_with(reason), "{}", run.out);
+}
+
+#[test]
+fn a_last_line_that_may_be_cut_off_is_said_to_be() {
+    let note = "sheet: note: line 3, the last, has no line end and stops in column 11 of 23: \
+        if the file was cut off, so was its last number\n";
+    let sheet = format!("{HEADER}\n{ROW_E}\n{ROW_A}");
+    assert_eq!(table(&sheet).err, note);
+    assert_eq!(table(format!("{sheet}\n")).err, "");
+    assert_eq!(table(format!("{sheet}\r")).err, "");
+    assert_eq!(table(format!("{HEADER}\n{ROW_A}\n{ROW_E}")).err, "");
+    assert_eq!(by_position(&sheet).err, "");
 }
 
 #[test]

@@ -53,6 +53,10 @@ fn exchanged_columns_give_the_verdict_of_their_headings() {
         HEADER.replace("b,h", "h,b")
     ));
     assert_eq!(in_order.out, as_typed.out);
+    assert_eq!(
+        in_order.err,
+        "sheet: note: column 7, \"h\": taken for width b, as the order has it\n"
+    );
 }
 
 #[test]
@@ -164,16 +168,113 @@ fn a_line_of_units_below_the_header_is_held_against_the_cells() {
 }
 
 #[test]
+fn units_above_the_header_are_held_against_the_cells() {
+    let header = "member;kind;grade;regime;moisture;factor;b;h;N;M;Q;Lh;Lb;Table 16 row";
+    let row = "T2;4;1;4;12;820;150;400;455;44;43;3050;1500;1";
+    for (above, message) in [
+        (
+            "Member;;;;;;Section, mm;;Forces, kN;;;;;",
+            "line 1, column 9, \"Forces, kN\": axial force N has to be in N\n",
+        ),
+        (
+            ";;;;;;mm;mm;Н;кНм;кН;мм;мм;",
+            "line 1, column 10, \"кНм\": moment M has to be in N·mm\n",
+        ),
+    ] {
+        let message_given = stopped(&format!("{above}\n{header}\n{row}\n"), &[]);
+        assert!(message_given.ends_with(message), "{message_given}");
+    }
+    for above in [
+        "Hall, span 24 m",
+        ";Hall, span 24 m;",
+        ";;;;;;Section, mm;;Forces, N;;;;;",
+        ";;;;%;‰;мм;мм;Н;Н·мм;Н;мм;мм;–",
+    ] {
+        let run = table(format!("{above}\n{header}\n{row}\n"));
+        assert_eq!(run.code, 0, "{above}: {}", run.err);
+        assert!(run.err.contains("is passed over"), "{}", run.err);
+    }
+}
+
+#[test]
+fn units_beside_numbers_and_further_down_are_held_against_the_cells() {
+    let sheet =
+        |units: &str| format!("{HEADER}\n1,2,3,4,5,6,7,8,9,10,11\n{ROW_A}\n{units}\n{ROW_A}\n");
+    for units in [
+        ",,,,%,0.001,mm,mm,kN,kNm,kN",
+        "units,1,1,1,%,‰,mm,mm,kN",
+        ",,,,,,мм,см",
+    ] {
+        let message = stopped(&sheet(units), &[]);
+        assert!(message.contains("line 4, column "), "{message}");
+        assert!(message.contains(" has to be in "), "{message}");
+    }
+    for row in ["x,2,1,3,10,1000,75,300,kN,20000000,20000", "y,mm,2"] {
+        assert_eq!(
+            Scratch::new(sheet(row).as_bytes()).run(&[]).code,
+            1,
+            "{row}"
+        );
+    }
+}
+
+#[test]
 fn a_header_with_a_number_in_it_stops_the_sheet() {
-    let header = HEADER.replace("row", "16").replace("b,h", "h,b");
+    let header = HEADER.replace("Table 16 row", "16").replace("b,h", "h,b");
     let content = format!("title\n{header}\n{ROW_A}\n");
     let message = stopped(&content, &[]);
     assert!(message.contains("line 2, \"member,kind,"), "{message}");
-    assert!(message.ends_with(" looks like a header, but a number is among its headings\n"));
+    assert!(
+        message.ends_with(" looks like a header, but has a number or a quote that is not closed\n")
+    );
     assert_eq!(
         by_position(&content).summary(),
         "3 rows: 1 passed, 0 failed, 2 refused"
     );
+    // Three headings that are known are enough, and two are not.
+    assert!(stopped("h,b,M,5\n", &[]).contains("looks like a header"));
+    assert_eq!(table("h,b,5\n").code, 1);
+    // The same further down.
+    let further_down = format!("{HEADER}\n{ROW_A}\n2,kind,grade,h,b\n{ROW_A}\n");
+    assert!(stopped(&further_down, &[]).contains("line 3 is a header"));
+}
+
+#[test]
+fn names_with_two_meanings_name_nothing() {
+    for (heading, in_place_of) in [("row", "Table 16 row"), ("length", "joint length")] {
+        let content = format!("{}\n{ROW_A}\n", HEADER.replace(in_place_of, heading));
+        let message = format!("\"{heading}\": not a known heading");
+        assert!(stopped(&content, &[]).contains(&message), "{heading}");
+    }
+    let small = table(format!("{}\n{ROW_A}\n", HEADER.to_lowercase()));
+    assert!(small.line("A ").contains("69.1"));
+    assert_eq!(
+        small.err.lines().take(3).collect::<Vec<_>>(),
+        [
+            "sheet: note: column 9, \"n\": taken for axial force N",
+            "sheet: note: column 10, \"m\": taken for moment M",
+            "sheet: note: column 11, \"q\": taken for shear force Q",
+        ]
+    );
+    assert_eq!(small.err.lines().count(), 3);
+}
+
+#[test]
+fn many_unknown_headings_are_counted() {
+    let header: String = (0..20_000).map(|number| format!("x{number},")).collect();
+    let message = stopped(&format!("member,kind,{header}\nA,2\n"), &[]);
+    assert!(message.contains("\n  column 32, \"x29\": not a known heading\n  and 19970 more\n"));
+}
+
+#[test]
+fn a_header_may_be_long_and_a_longer_line_is_none() {
+    let headed = |length: usize| {
+        let remark = "x".repeat(length - HEADER.len() - 1);
+        let sheet = format!("{HEADER},{remark}\n{ROW_A}\n");
+        Scratch::new(sheet.as_bytes()).run(&[])
+    };
+    assert!(headed(1 << 20).err.contains("not a known heading"));
+    assert!(headed((1 << 20) + 1).err.contains("there is no header"));
 }
 
 #[test]

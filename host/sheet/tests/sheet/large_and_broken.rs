@@ -40,11 +40,23 @@ fn much_of_nothing() {
     let blank = table("\n".repeat(50_000_000));
     assert_eq!((blank.code, blank.out.as_str()), (2, ""));
     assert!(blank.err.ends_with(": the first 10000 lines are blank\n"));
-    for line in ["\"", "\"x", "\"\"\"", ",\"", "\"\"", "\"1,2,3"] {
-        let content = format!("{HEADER}\n{}", format!("{line}\n").repeat(300_000));
+    for line in [
+        "\"x",
+        "x,\"",
+        "x\"",
+        "\"1,2,3",
+        ",,,,b\",\"c",
+        ",,,,,,,,,,,,,,,,,,,,,,,,,,b\",\"c",
+    ] {
+        let content = format!("{HEADER}\n{}", format!("{line}\n").repeat(100_000));
         let run = table(content);
         assert_eq!(run.code, 1, "{line}");
-        assert!(run.summary().contains(" rows: 0 passed, 0 failed, "));
+        let refused = " rows: 0 passed, 0 failed, ";
+        assert!(run.summary().contains(refused), "{line}: {}", run.summary());
+    }
+    for line in ["\"", "\"\"", "\"\",\"\"", ",\""] {
+        let content = format!("{HEADER}\n{}", format!("{line}\n").repeat(100_000));
+        assert!(table(content).err.ends_with(": there are no rows\n"));
     }
 }
 

@@ -14,8 +14,8 @@ fn numbers_as_people_type_them() {
         ("75,00", 75.0),
         ("75.", 75.0),
         (",5", 0.5),
-        ("0,500", 0.5),
-        ("1234,000", 1234.0),
+        ("0,50", 0.5),
+        ("1234,00", 1234.0),
         ("1e3", 1000.0),
         ("2,5E+05", 250_000.0),
         ("1e-3", 0.001),
@@ -41,16 +41,25 @@ fn numbers_as_people_type_them() {
 #[test]
 fn a_mark_before_three_digits_is_unclear_in_every_file() {
     let both = DecimalMark::PointOrComma;
-    for text in ["20,000", "20.000", "-1.250", "+100.000"] {
+    for text in [
+        "20,000", "20.000", "-1.250", "+100.000", "0,500", "1234,000",
+    ] {
         assert_eq!(read(text, both), Typed::Unclear, "{text}");
     }
-    for text in ["20.000", "-1.250", "1.000", "999.999"] {
+    for text in [
+        "20.000",
+        "-1.250",
+        "1.000",
+        "999.999",
+        "0.500",
+        ".500",
+        "020.000",
+        "1000.000",
+        "1 000.000",
+    ] {
         assert_eq!(read(text, DecimalMark::Point), Typed::Unclear, "{text}");
     }
     for (text, number) in [
-        ("0.500", 0.5),
-        ("1000.000", 1000.0),
-        ("1 000.000", 1000.0),
         ("20.00", 20.0),
         ("20.0000", 20.0),
         ("20.000e3", 20_000.0),

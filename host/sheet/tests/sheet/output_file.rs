@@ -1,5 +1,6 @@
 //! `-o FILE`, and standard output that leads into the sheet itself.
 use crate::common::{command, csv, run, table, Run, Scratch, HEADER, ROW_A, ROW_E};
+use lvl_sheet::windows_1251;
 use std::fs::{self, File, OpenOptions};
 use std::os::unix::fs::{symlink, PermissionsExt};
 use std::path::{Path, PathBuf};
@@ -74,6 +75,34 @@ fn answers_go_to_a_file() {
     assert_eq!(folder.names(), ["answers.csv", "hall.csv", "link.csv"]);
 }
 
+#[test]
+fn a_file_has_what_standard_output_has() {
+    let folder = Folder::new("as-standard-output");
+    let (sheet_file, answers) = (folder.file("hall.csv"), folder.file("answers"));
+    let russian = sheet().replace("A,", "Ригель,");
+    let marked = format!("\u{feff}{russian}");
+    let utf16: Vec<u8> = marked.encode_utf16().flat_map(u16::to_le_bytes).collect();
+    for content in [
+        windows_1251::encode(&russian),
+        marked.clone().into_bytes(),
+        utf16,
+    ] {
+        fs::write(&sheet_file, &content).unwrap();
+        for options in [&["--csv"][..], &["--pack"], &[]] {
+            let printed = command().args(options).arg(&sheet_file).output().unwrap();
+            let mut to_file = command();
+            to_file.args(options).args(["-o", &answers, &sheet_file]);
+            let written = to_file.output().unwrap();
+            assert_eq!(fs::read(&answers).unwrap(), printed.stdout);
+            assert_eq!(
+                (written.stdout, written.stderr),
+                (Vec::new(), printed.stderr)
+            );
+            assert!(!printed.stdout.is_empty());
+        }
+    }
+}
+
 /// No rows, columns that are not clear, a header further down, a sheet that is not there.
 #[test]
 fn a_run_that_stops_leaves_the_old_file_and_nothing_else() {
@@ -102,14 +131,17 @@ fn a_run_that_stops_leaves_the_old_file_and_nothing_else() {
     }
     assert_eq!(run(&["-o", &answers, &folder.file("none.csv")]).code, 2);
     assert_eq!(read(&answers), "old");
+    symlink("none", folder.file("nowhere")).unwrap();
     for (target, message) in [
         (folder.file("none/answers.csv"), "No such file or directory"),
         (folder.file("."), "it is no file"),
+        (folder.file("nowhere"), "it is a link that leads nowhere"),
         ("/dev/null".to_owned(), "it is no file"),
     ] {
         fs::write(&sheet_file, sheet()).unwrap();
-        let run = run(&["-o", &target, &sheet_file]);
-        assert_eq!(run.code, 2);
+        let run = run(&["--csv", "-o", &target, &sheet_file]);
+        assert_eq!((run.code, run.out.as_str()), (2, ""));
+        assert_eq!(run.err.lines().count(), 1, "{}", run.err);
         assert!(
             run.err.contains(" cannot be written: ") && run.err.contains(message),
             "{}",
@@ -185,6 +217,16 @@ fn standard_output_that_is_the_sheet_is_refused() {
             assert_eq!(read(file.path()), sheet());
         }
     }
+    // What is no file may be both.
+    let null = || {
+        File::options()
+            .read(true)
+            .write(true)
+            .open("/dev/null")
+            .unwrap()
+    };
+    let both = command().arg("-").stdin(null()).stdout(null()).output();
+    assert!(Run::of(both.unwrap()).err.ends_with("there are no rows\n"));
     // Emptied by whoever started it: said all the same.
     let emptied = File::create(&file.0).unwrap();
     let run = Run::of(command().arg(&file.0).stdout(emptied).output().unwrap());

@@ -3,6 +3,7 @@ use crate::common::{
     cells_of, command, hall_roof, on_terminal, run, Scratch, HEADER, ROW_A, ROW_B, ROW_E,
 };
 use lvl_addin::entry;
+use lvl_addin::row::{HostRow, CELLS};
 use std::path::{Path, PathBuf};
 use std::process::{Command, Stdio};
 
@@ -33,21 +34,37 @@ fn rows_are_packed_by_the_addin() {
     );
 }
 
+/// What stands for a row that cannot be packed.
+const BLANK_ROW: [u8; 3] = [0; 3];
+
 #[test]
-fn a_row_that_cannot_be_packed_is_left_out_and_said_to_be() {
+fn a_row_that_cannot_be_packed_is_blank_and_said_to_be() {
     let spoilt = ROW_B
         .replace("B,", "B \u{202e}left,")
         .replace("50000", "see statics");
-    let sheet = [HEADER, ROW_A, &spoilt, &format!("{ROW_E},5"), ROW_E].join("\n");
+    let sheet = [HEADER, "", ROW_A, &spoilt, &format!("{ROW_E},5"), ROW_E].join("\n");
     let (code, out, err) = packed(&sheet);
-    let bytes = [ROW_A, ROW_E].map(|row| entry::pack(&cells_of(row)).unwrap());
-    assert_eq!((code, out), (1, bytes.concat()));
+    let [a, e] = [ROW_A, ROW_E].map(|row| entry::pack(&cells_of(row)).unwrap());
+    let bytes = [&a[..], &BLANK_ROW, &BLANK_ROW, &e].concat();
+    assert_eq!((code, out), (1, bytes));
     assert_eq!(
         err,
-        "sheet: note: line 3, \"B \u{fffd}left\", is not packed: cell 8 axial force N: \"see statics\" is not a number\n\
-         sheet: note: line 4, \"E\", is not packed: column 24: \"5\" stands below no heading\n\
+        "sheet: note: row 2, line 4, \"B \u{fffd}left\", is packed as a blank row: \
+            cell 8 axial force N: \"see statics\" is not a number\n\
+         sheet: note: row 3, line 5, \"E\", is packed as a blank row: \
+            column 24: \"5\" stands below no heading\n\
          4 rows: 2 packed, 2 refused\n"
     );
+}
+
+/// Before a sheet is known to be clear to its end, nothing is written: half of it would look like the whole.
+#[test]
+fn a_sheet_that_is_not_clear_packs_nothing() {
+    let exchanged = HEADER.replace("b,h", "h,b");
+    let rows = format!("{ROW_A}\n").repeat(40);
+    let (code, out, err) = packed(&format!("{HEADER}\n{rows}{exchanged}\n{ROW_A}\n"));
+    assert_eq!((code, out), (2, Vec::new()));
+    assert!(err.contains("line 42 is a header"), "{err}");
 }
 
 #[test]
@@ -72,25 +89,30 @@ fn the_program_judges_what_was_packed_as_the_sheet_does() {
     assert_eq!(packing.wait().unwrap().code(), Some(1));
     assert_eq!(String::from_utf8(scheduled.stderr).unwrap(), "");
     let sheet = hall_roof();
-    let packable = sheet
-        .lines()
-        .skip(1)
-        .map(cells_of)
-        .filter(|cells| entry::pack(cells).is_ok());
-    let expected: String = (1..)
-        .zip(packable)
-        .map(|(number, cells)| match entry::check(&cells) {
-            Ok(verdict) => {
-                let word = if verdict.passes { "pass" } else { "fail" };
-                let (check, utilisation, count) =
-                    (verdict.check, verdict.utilisation, verdict.count);
-                format!("{number} {word} {check} {utilisation} {count}\n")
-            }
-            Err(refusal) => format!("{number} refused {} {}\n", refusal.number, refusal.cell),
-        })
+    let expected: Vec<String> = (1..)
+        .zip(sheet.lines().skip(1))
+        .map(|(number, row)| line_of(number, &cells_of(row)))
         .collect();
-    assert_eq!(expected.lines().count(), 60);
-    assert_eq!(String::from_utf8(scheduled.stdout).unwrap(), expected);
+    assert_eq!(expected.len(), 62);
+    let lines = String::from_utf8(scheduled.stdout).unwrap();
+    assert_eq!(lines.lines().collect::<Vec<_>>(), expected);
+}
+
+/// The program's line for a row, by the add-in itself.
+fn line_of(number: usize, cells: &HostRow) -> String {
+    // A blank row stands for one that cannot be read.
+    let cells = match entry::pack(cells) {
+        Ok(_) => cells,
+        Err(_) => &[None; CELLS],
+    };
+    match entry::check(cells) {
+        Ok(verdict) => {
+            let word = if verdict.passes { "pass" } else { "fail" };
+            let (check, utilisation, count) = (verdict.check, verdict.utilisation, verdict.count);
+            format!("{number} {word} {check} {utilisation} {count}")
+        }
+        Err(refusal) => format!("{number} refused {} {}", refusal.number, refusal.cell),
+    }
 }
 
 #[test]

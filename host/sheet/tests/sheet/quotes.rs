@@ -1,5 +1,5 @@
 //! Quoted fields: doubled quotes, line breaks, and quotes that are never closed.
-use crate::common::{csv, table, table_of, Scratch, HEADER, ROW_A, ROW_B, ROW_E};
+use crate::common::{csv, table, table_of, Run, Scratch, HEADER, ROW_A, ROW_B, ROW_E};
 
 /// Row A under another name, as it is typed.
 fn named(name: &str) -> String {
@@ -15,7 +15,7 @@ fn quotes() {
         &ROW_A.replace("75", "\"75\""),
     ]);
     assert!(run.line("A \"left\", axis 1").contains("69.1"));
-    assert!(run.line("B never closed").ends_with("cell 1 kind: blank"));
+    assert!(run.line("\"B never closed").ends_with("cell 1 kind: blank"));
     assert!(run.line("C 3\" wide").contains("69.1"));
     assert_eq!(run.summary(), "4 rows: 3 passed, 0 failed, 1 refused");
 }
@@ -70,9 +70,9 @@ fn a_quote_that_is_never_closed_spoils_its_own_line_alone() {
         (&last, named("A 3\"")),
         (&last, format!("{ROW_A}\"")),
         (&last, named("\"A\"")),
-        ("\"", ROW_A.to_owned()),
+        ("\"x", ROW_A.to_owned()),
         ("x,\"", named("A 3\"")),
-        (",\"\"\"", named("A\"\"")),
+        ("x,\"\"\"", named("A\"\"")),
     ] {
         let sheet = [HEADER, ROW_E, spoilt, &next, ROW_E].join("\n");
         let run = table(&sheet);
@@ -103,4 +103,112 @@ fn line_breaks_are_held_where_no_member_is() {
     let sheet = format!("{header}\n{remark},{ROW_A}\n,{ROW_E}\n");
     let run = Scratch::new(sheet.as_bytes()).run(&["--skip", "remark"]);
     assert_eq!(run.summary(), "2 rows: 2 passed, 0 failed, 0 refused");
+}
+
+/// A sheet of beams with columns of the office's own on the right, and what is passed over of them.
+const OWN_COLUMNS: [&str; 11] = [
+    "remark", "s1", "s2", "s3", "s4", "s5", "s6", "s7", "s8", "s9", "s10",
+];
+
+fn with_own_columns(rows: &[&str]) -> Run {
+    let header = format!(
+        "member,kind,grade,regime,moisture,factor,b,h,M,Q,{}",
+        OWN_COLUMNS.join(",")
+    );
+    let skip = OWN_COLUMNS.map(|heading| ["--skip", heading]).concat();
+    let sheet = format!("{header}\n{}\n", rows.join("\n"));
+    Scratch::new(sheet.as_bytes()).run(&skip)
+}
+
+/// The inch mark below seems to close the remark, and the member's numbers would fall into columns that are passed over.
+#[test]
+fn a_member_does_not_vanish_into_columns_that_are_passed_over() {
+    let fails = "2,1,4,12,1000,75,300,29600000,21200";
+    let passes = "2,1,4,12,1000,75,300,21400000,15800";
+    let run = with_own_columns(&[
+        &format!("P1,{passes},\"see dwg"),
+        &format!("P3 5\",{fails}"),
+    ]);
+    assert_eq!(run.summary(), "2 rows: 1 passed, 1 failed, 0 refused");
+    assert!(run.line("P3 5\"").contains("102.3"), "{}", run.out);
+    // A remark that is closed, with figures of the office's own after it.
+    let run = with_own_columns(&[
+        &format!("P1,{passes},\"see dwg,\nrev. 2\",5,6"),
+        &format!("P3,{fails}"),
+    ]);
+    assert_eq!(run.summary(), "2 rows: 1 passed, 1 failed, 0 refused");
+}
+
+/// Two load cases in one cell, a line break after a number, a quote that is not closed or closes too early: no number.
+#[test]
+fn a_number_with_a_stray_quote_is_refused() {
+    for m in [
+        "\"12100000\n29600000\"",
+        "\"12100000\n\"",
+        "\"12100000",
+        "\"12\"100000",
+        "12100000\"",
+        "\"12100000\"x",
+    ] {
+        let row = format!("P3,2,1,4,12,1000,75,300,,{m}");
+        let run = table_of(&[&row, ROW_A]);
+        let reason = "cell 9 moment M: \"";
+        assert!(run.line("P3 ").contains(reason), "{m}: {}", run.out);
+        assert!(run.line("A ").contains("69.1"), "{m}: {}", run.out);
+        assert!(run.summary().contains(" 1 passed, 0 failed, "), "{m}");
+    }
+    let spaced = table_of(&[&ROW_A.replace(",75,", ",\"75\" ,")]);
+    assert!(spaced.line("A ").contains("69.1"));
+}
+
+/// As each line was typed, so many rows.
+#[test]
+fn lines_that_are_not_one_field_stay_apart() {
+    for (lines, rows) in [
+        // Closed before a letter.
+        ("\"A\n\"B\",x", 2),
+        ("\"A\n\"B", 2),
+        // Three numbers in a line, and two.
+        ("\"A,1,2,3\nx\",y", 2),
+        ("\"A,1,2\nx\",y", 1),
+        ("\"A\n1,2,3\nx\",y", 3),
+        // In the column of a cell, and past the last.
+        ("A,\"x\ny\"", 2),
+        (",,,,,,,,,,,,,,,,,,,,,,,,\"x\ny\"", 2),
+        // A header.
+        ("\"A\nwidth b,height h\nx\",y", 3),
+    ] {
+        let sheet = format!("{HEADER}\n{lines}\n");
+        let run = Scratch::new(sheet.as_bytes()).run(&["--csv"]);
+        let refused = format!("{rows} row");
+        match rows {
+            3 if lines.contains("width") => assert_eq!(run.code, 2, "{}", run.err),
+            _ => assert!(run.err.starts_with(&refused), "{lines}: {}", run.err),
+        }
+    }
+}
+
+#[test]
+fn a_title_does_not_swallow_the_header() {
+    let flat = "P1 5\",2,1,4,12,1000,75,300,,21400000,15800";
+    let exchanged = HEADER.replace("b,h", "h,b");
+    let run = table(format!("\"Hall roof\n{exchanged}\n{flat}\n"));
+    assert!(run.line("P1 5\"").contains("300 × 75 "), "{}", run.out);
+    assert!(run.line("P1 5\"").contains("FAIL"), "{}", run.out);
+    for header in [
+        format!("\"{exchanged}"),
+        format!("\"{exchanged}\""),
+        exchanged.replace("kind", "\"kind"),
+    ] {
+        let run = table(format!("{header}\n{flat}\n"));
+        assert_eq!((run.code, run.out.as_str()), (2, ""), "{header}");
+        let message = "looks like a header, but has a number or a quote that is not closed";
+        assert!(run.err.contains(message), "{}", run.err);
+    }
+    // Programs that read what --csv wrote see a title, and no more.
+    let written = csv(format!("\"Hall\n{HEADER}\n{ROW_A}\n")).out;
+    assert!(
+        written.starts_with("\"\"\"Hall\"\nmember,kind"),
+        "{written}"
+    );
 }

@@ -4,7 +4,7 @@ use lvl_sheet::text::{is_unseen, shown};
 use std::path::Path;
 
 /// Controls of one byte and of two, turns of direction, characters without width.
-const UNSEEN: [char; 22] = [
+const UNSEEN: [char; 25] = [
     '\0',
     '\x07',
     '\x08',
@@ -27,6 +27,9 @@ const UNSEEN: [char; 22] = [
     '\u{fe0f}',
     '\u{fff9}',
     '\u{e0041}',
+    '\u{600}',
+    '\u{70f}',
+    '\u{13430}',
 ];
 
 fn assert_seen(text: &str) {
