@@ -174,7 +174,7 @@ usage: sheet [--csv | --pack] [-o FILE] [--skip HEADING]... [--by-position] FILE
                   last one, in place of the table; the count of rows goes to the
                   error output
   --pack          writes the rows packed, as the program schedule reads them; a
-                  row that cannot be packed is left out, with a note
+                  row that cannot be packed is a blank row there, with a note
   -o FILE         writes to a file: a new one takes the old one's place when all
                   is done, and until then the old one stands as it is
   --skip HEADING  passes over a column of your own: remarks, drawing
@@ -182,17 +182,20 @@ usage: sheet [--csv | --pack] [-o FILE] [--skip HEADING]... [--by-position] FILE
   --              ends the options: what follows is a file
   --help          this text
 
-The sheet. A line is a row. A field in quotes may hold line breaks; a quote that
-is not closed spoils its own line. Fields are separated by commas, semicolons or
-tabs: as a first line sep=; says, else as the header is best understood, else
-whichever the first line has most of. The text is UTF-8; UTF-16 and Windows-1251
-are recognised, with a note where no mark says so, and --csv writes them again.
+The sheet. A line is a row. A field in quotes may hold line breaks, but for a cell;
+a quote that is not closed spoils its own line. Fields are separated by commas,
+semicolons or tabs: as a first line sep=; says, else as the header is best
+understood, else whichever the first line has most of. The text is UTF-8; UTF-16
+and Windows-1251 are recognised, with a note where no mark says so, and --csv
+writes them again.
 
 The header is a line without numbers that has two known headings at least. It is
 looked for in the first {looked_at} lines; what stands above it is passed over, with a
 note. Each heading says what its column holds, in any order; a cell without a
-column is blank. A heading that is not known, or is there twice, stops the sheet.
-A row with anything in a column without a heading is refused.
+column is blank. A row with anything in a column without a heading is refused.
+What is not clear stops the sheet, and nothing is written: a heading that is not
+known, or is there twice; units other than the cells', in the header or in a line
+above or below it; a second header; a line above the header that may be a member.
 
 Without a header, or with --by-position, the order decides: the members' names,
 unless the first column begins with a number or is headed \"kind\"; then follow
@@ -212,9 +215,10 @@ with bending. Grades: 1 K45, 2 K40, 3 K35. Regimes: 1 to 11 for А Б В Г Д �
 Л М; К belongs to fire and is refused.
 
 Numbers may have a decimal point, spaces between thousands and an exponent; a
-decimal comma too, where fields are not separated by commas. 20.000, and 20,000
-there, are refused, since both 20 and 20000 may be meant. All cells have to be
-whole numbers. What is not a number is shown to the add-in as such, and refused.
+decimal comma too, where fields are not separated by commas. A mark before exactly
+three digits, as in 20.000, is refused, since both 20 and 20000 may be meant. All
+cells have to be whole numbers. What is not a number is shown to the add-in as
+such, and refused.
 The answers of an earlier --csv are written anew, in their columns. In --csv, text
 that a spreadsheet would compute (=, +, -, @ first) gets an apostrophe before it.
 
