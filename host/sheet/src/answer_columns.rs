@@ -115,8 +115,8 @@ impl Report for AnswerColumns {
         }
     }
 
-    fn blank(&mut self, line: &[u8]) {
-        self.add_line(line);
+    fn blank(&mut self, line: &[u8], columns: &Columns) {
+        self.add_fields(Fields::of(line, columns.separator), columns.separator);
     }
 
     fn row(&mut self, row: &SheetRow) -> Outcome {
@@ -177,6 +177,7 @@ fn answers(judged: Result<Verdict, Refused>) -> [String; HEADINGS.len()] {
         Err(refused) => {
             let (refusal, cell) = match refused {
                 Refused::ByAddin(refusal) => (refusal.number.to_string(), refusal.cell.to_string()),
+                Refused::OpenQuote => ("open quote".to_owned(), none()),
                 Refused::ExtraColumn => ("extra column".to_owned(), none()),
             };
             ["refused".to_owned(), none(), none(), none(), refusal, cell]

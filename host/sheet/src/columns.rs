@@ -6,6 +6,9 @@ use crate::number::{self, DecimalMark, Typed};
 use lvl_addin::row::CELLS;
 use std::borrow::Cow;
 
+/// A line with so many numbers in the columns of cells is a member's: the least that is filled has nine.
+pub const NUMBERS_OF_A_MEMBER: usize = 5;
+
 /// How a person wants the columns to be taken.
 #[derive(Clone, Debug, Default)]
 pub struct ColumnOptions {
@@ -25,10 +28,9 @@ pub enum Column {
 }
 
 /// What decides which column holds what.
-#[derive(Clone, Debug, PartialEq, Eq)]
+#[derive(Clone, Copy, Debug, PartialEq, Eq)]
 pub enum Basis {
-    /// The header with these keys of its headings.
-    Headings(Vec<String>),
+    Headings,
     /// The order of the cells, since there is no header.
     NoHeader,
     /// The order of the cells, since it was asked for.
@@ -102,6 +104,14 @@ impl Columns {
     pub fn is_cell(&self, place: usize) -> bool {
         let column = self.columns.get(place);
         matches!(column, Some(Column::Holds(Heading::Cell(_))))
+    }
+
+    /// How many numbers stand in columns of cells, where the first of these fields is at this place.
+    pub fn numbers_from(&self, place: usize, fields: &[u8]) -> usize {
+        (place..)
+            .zip(Fields::of(fields, self.separator))
+            .filter(|(place, field)| self.is_cell(*place) && is_number(field, self.separator))
+            .count()
     }
 
     /// The place of the column that holds this, from 0.

@@ -72,6 +72,14 @@ fn unquoted(inside: &[u8]) -> Option<(Vec<u8>, &[u8])> {
     }
 }
 
+/// Whether a field begins with a quote that is not closed as it should be, so that it may have swallowed those after it.
+///
+/// Written as a field of its own, it is still seen to be one.
+pub fn is_open(field: &[u8], separator: u8) -> bool {
+    let quotes = field.iter().filter(|byte| **byte == b'"').count();
+    field.starts_with(b"\"") && (quotes % 2 == 1 || field.contains(&separator))
+}
+
 /// Whether a field has no content.
 pub fn is_empty(field: &[u8]) -> bool {
     field.iter().all(u8::is_ascii_whitespace)

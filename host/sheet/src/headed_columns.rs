@@ -1,7 +1,7 @@
 //! Which columns a header heads, or what is wrong with its headings.
 use crate::answer_columns::HEADINGS;
 use crate::columns::{Basis, Column, Columns};
-use crate::header::{filled_keys, texts};
+use crate::header::texts;
 use crate::headings::{self, Heading, Meaning};
 use crate::text::shown;
 use crate::{heading_list, heading_names, words};
@@ -26,9 +26,8 @@ pub fn columns(header: &[u8], separator: u8, skip: &[String]) -> Result<Columns,
     if !problems.is_empty() {
         return Err(message(&problems));
     }
-    let basis = Basis::Headings(filled_keys(&texts));
     let columns = columns.into_iter().flatten().collect();
-    Ok(Columns::new(separator, basis, columns))
+    Ok(Columns::new(separator, Basis::Headings, columns))
 }
 
 fn column(text: &str, skipped: &[String]) -> Result<Column, String> {

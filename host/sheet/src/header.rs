@@ -1,12 +1,16 @@
 //! Whether a line is a header.
-use crate::columns::{is_number, Basis, Columns};
-use crate::fields::Fields;
+use crate::columns::{is_number, Basis, Column, Columns};
+use crate::fields::{self, Fields};
 use crate::headings::{self, Heading, Meaning};
 use crate::separator;
+use std::borrow::Cow;
 use std::collections::HashSet;
 
 /// A longer line is no header: no spreadsheet has so many columns.
 const LONGEST: usize = 1 << 20;
+
+/// No heading that is known is as long.
+const LONGEST_HEADING: usize = 200;
 
 /// One known heading may be chance, as in a member that is called B and has nothing else filled.
 const FEWEST_KNOWN: usize = 2;
@@ -33,15 +37,30 @@ pub fn found_in(line: &[u8], separators: &[u8]) -> Option<Found> {
         .max_by_key(|found| found.known)
 }
 
-/// Whether a line that is no header would be one, were it not for a number or a quote among its headings.
+/// Whether so many headings of a line are known that it is meant to be a header.
+pub fn is_certain(line: &[u8], separators: &[u8]) -> bool {
+    line.len() <= LONGEST
+        && separators
+            .iter()
+            .any(|separator| known_headings(line, *separator) >= CERTAIN)
+}
+
+/// Whether a line that is no header would be one, were it not for a number or an open quote among its headings.
 pub fn is_spoilt(line: &[u8], separators: &[u8]) -> bool {
-    if line.len() > LONGEST {
-        return false;
-    }
-    let bare: Vec<u8> = line.iter().copied().filter(|byte| *byte != b'"').collect();
-    separators
-        .iter()
-        .any(|separator| known_headings(&bare, *separator) >= CERTAIN)
+    is_certain(line, separators) || is_open(line, separators)
+}
+
+/// Whether a line would be a header, were it not for an open quote, or for one around all of it.
+pub fn is_open(line: &[u8], separators: &[u8]) -> bool {
+    let hides_fields = |separator: &u8| {
+        let mut fields = Fields::of(line, *separator);
+        fields.clone().nth(1).is_none() || fields.any(|field| fields::is_open(&field, *separator))
+    };
+    let bytes = line.iter().copied();
+    let without_quotes = || -> Vec<u8> { bytes.filter(|byte| *byte != b'"').collect() };
+    line.contains(&b'"')
+        && separators.iter().any(hides_fields)
+        && is_certain(&without_quotes(), separators)
 }
 
 /// What a line below the header is.
@@ -56,19 +75,32 @@ pub enum Below {
 
 pub fn below(line: &[u8], columns: &Columns) -> Below {
     let separator = columns.separator;
-    if !is_header(line, separator) && !is_spoilt(line, &[separator]) {
-        return Below::Row;
-    }
-    let keys = filled_keys(&texts(line, separator));
-    match columns.basis == Basis::Headings(keys) {
-        true => Below::Repeated,
-        false => Below::Another,
+    if columns.basis == Basis::Headings && is_repeated(line, columns) {
+        Below::Repeated
+    } else if is_header(line, separator) || is_spoilt(line, &[separator]) {
+        Below::Another
+    } else {
+        Below::Row
     }
 }
 
-/// For a header below rows.
-pub fn further_down(line: u64) -> String {
-    format!("line {line} is a header, but rows stand above it: one table a sheet, with its header on top")
+/// Whether every column of a member's name or cell is headed by what it holds.
+fn is_repeated(line: &[u8], columns: &Columns) -> bool {
+    let mut fields = Fields::of(line, columns.separator);
+    columns.iter().all(|column| {
+        let field = fields.next().unwrap_or_default();
+        match column {
+            Column::Holds(heading @ (Heading::Member | Heading::Cell(_))) => {
+                headings::read(&String::from_utf8_lossy(&field)) == Meaning::Known(heading)
+            }
+            Column::Holds(Heading::Answer(_)) | Column::Skipped | Column::Unheaded => true,
+        }
+    })
+}
+
+/// For a header below the header, or below rows.
+pub fn another(line: u64) -> String {
+    format!("line {line} is another header: one table a sheet, with one header on top")
 }
 
 /// A header's headings.
@@ -76,14 +108,6 @@ pub fn texts(header: &[u8], separator: u8) -> Vec<String> {
     Fields::of(header, separator)
         .map(|field| String::from_utf8_lossy(&field).into_owned())
         .collect()
-}
-
-/// The keys of a header's headings up to the last that is not empty.
-pub fn filled_keys(texts: &[String]) -> Vec<String> {
-    let mut keys: Vec<String> = texts.iter().map(|text| headings::key(text)).collect();
-    let filled = keys.iter().rposition(|key| !key.is_empty());
-    keys.truncate(filled.map_or(0, |last| last + 1));
-    keys
 }
 
 pub fn has_number(line: &[u8], separator: u8) -> bool {
@@ -105,11 +129,13 @@ fn likeliest_last(line: &[u8], separators: &[u8]) -> Vec<u8> {
 
 /// How many different headings a line has that are known, those with another unit among them.
 fn known_headings(line: &[u8], separator: u8) -> usize {
-    let named = |text: &String| match headings::read(text) {
+    let is_short = |field: &Cow<[u8]>| field.len() <= LONGEST_HEADING;
+    let named = |field: Cow<[u8]>| match headings::read(&String::from_utf8_lossy(&field)) {
         Meaning::Known(heading) => Some(heading),
         Meaning::OtherUnit(cell) => Some(Heading::Cell(cell)),
         Meaning::Empty | Meaning::Unknown => None,
     };
-    let known: HashSet<Heading> = texts(line, separator).iter().filter_map(named).collect();
+    let fields = Fields::of(line, separator).filter(is_short);
+    let known: HashSet<Heading> = fields.filter_map(named).collect();
     known.len()
 }

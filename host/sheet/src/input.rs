@@ -40,40 +40,44 @@ impl Source {
     }
 }
 
-/// All bytes of a sheet whose answers may go to standard output; what is wrong where they cannot be had.
-pub fn read(source: &Source, to_standard_output: bool) -> Result<Vec<u8>, String> {
-    let (is_overwritten, bytes) = opened(source).map_err(|error| error.to_string())?;
-    if to_standard_output && is_overwritten {
-        return Err(
-            "standard output leads into the sheet itself, so nothing is written; \
-                    -o FILE replaces a file when all is done"
-                .to_owned(),
-        );
+/// A sheet's bytes.
+pub struct Input {
+    pub bytes: Vec<u8>,
+    /// Where the file lies that they are from, if it is one.
+    place: Option<(u64, u64)>,
+}
+
+impl Input {
+    /// Whether the bytes are those of this file, by whatever name.
+    pub fn is_of(&self, file: &Metadata) -> bool {
+        self.place == Some(place(file))
     }
-    if bytes.len() as u64 > MOST_BYTES {
+}
+
+/// All bytes of a sheet; what is wrong where they cannot be had, or are none.
+pub fn read(source: &Source) -> Result<Input, String> {
+    let input = opened(source).map_err(|error| error.to_string())?;
+    if input.bytes.len() as u64 > MOST_BYTES {
         return Err(format!("longer than {MOST_BYTES} bytes: this is no sheet"));
     }
-    if WORKBOOKS.iter().any(|begin| bytes.starts_with(begin)) {
+    if WORKBOOKS.iter().any(|begin| input.bytes.starts_with(begin)) {
         return Err("this is a workbook; save the sheet as CSV".to_owned());
     }
-    Ok(bytes)
+    Ok(input)
 }
 
-/// Whether a file is what standard output leads into, and its bytes up to one more than a sheet may have.
-fn opened(source: &Source) -> io::Result<(bool, Vec<u8>)> {
+/// The bytes up to one more than a sheet may have.
+fn opened(source: &Source) -> io::Result<Input> {
     let file = source.open()?;
-    let is_overwritten = is_standard_output(&file)?;
+    let data = file.metadata()?;
     let mut bytes = Vec::new();
     file.take(MOST_BYTES + 1).read_to_end(&mut bytes)?;
-    Ok((is_overwritten, bytes))
+    Ok(Input {
+        bytes,
+        place: data.is_file().then(|| place(&data)),
+    })
 }
 
-/// Whether what is written to standard output goes into this file.
-fn is_standard_output(file: &File) -> io::Result<bool> {
-    let Ok(output) = io::stdout().as_fd().try_clone_to_owned() else {
-        return Ok(false);
-    };
-    let place = |data: &Metadata| (data.dev(), data.ino());
-    let (input, output) = (file.metadata()?, File::from(output).metadata()?);
-    Ok(input.is_file() && place(&input) == place(&output))
+fn place(data: &Metadata) -> (u64, u64) {
+    (data.dev(), data.ino())
 }

@@ -43,7 +43,7 @@ pub trait Report: Sized {
     /// Once, before the rows.
     fn begin(&mut self, _: &Opening) {}
     /// For a line without content.
-    fn blank(&mut self, _: &[u8]) {}
+    fn blank(&mut self, _: &[u8], _: &Columns) {}
     /// For each row.
     fn row(&mut self, row: &SheetRow) -> Outcome;
     /// All that was made.
@@ -66,7 +66,7 @@ pub fn go_through(
         let mut last = None;
         while let Some(line) = lines.next_line(Shape::In(columns)) {
             if fields::is_blank(line.text) {
-                report.blank(line.text);
+                report.blank(line.text, columns);
                 continue;
             }
             tally.count(report.row(&clear_row(&line, columns)?));
@@ -81,15 +81,21 @@ pub fn go_through(
     Ok((tally, report.finish()))
 }
 
-/// The row that a line holds, unless it says that the columns hold something else.
+/// The row that a line holds, unless it is not clear that it is one.
 fn clear_row<'a>(line: &Line<'a>, columns: &'a Columns) -> Result<SheetRow<'a>, String> {
+    if let Some(closed_in) = line.closed_in {
+        return Err(format!(
+            "line {}: a quote is open that line {closed_in} may close, and members would be lost: put the quotes right",
+            line.number
+        ));
+    }
     let row = SheetRow::read(line, columns);
     // Where the order of the cells was asked for, every line is a row.
-    if columns.basis == Basis::Asked || !row.has_text_for_numbers() {
+    if columns.basis == Basis::Asked || !row.may_be_no_row() {
         return Ok(row);
     }
     match header::below(line.text, columns) {
-        Below::Another => Err(header::further_down(line.number)),
+        Below::Another => Err(header::another(line.number)),
         Below::Repeated => Ok(row),
         Below::Row => unit_lines::below_header(line, columns).map_or(Ok(row), Err),
     }
@@ -98,7 +104,7 @@ fn clear_row<'a>(line: &Line<'a>, columns: &'a Columns) -> Result<SheetRow<'a>, 
 /// What a person should know of a last line that is shorter than the header and has no end.
 fn cut_off(line: &Line, text: &[u8], columns: &Columns) -> Option<String> {
     let is_ended = text.ends_with(b"\n") || text.ends_with(b"\r");
-    let is_headed = matches!(columns.basis, Basis::Headings(_));
+    let is_headed = columns.basis == Basis::Headings;
     let (fields, _) = columns.split(line.text);
     (is_headed && !is_ended && fields.len() < columns.width()).then(|| {
         format!(

@@ -1,16 +1,11 @@
 //! The lines of a text, whatever ends them: line feed, carriage return or both.
 //!
-//! A quoted field may hold line breaks; its line then reaches over several. One quote too few must not swallow the members below:
-//! a quote that is not closed in the way of RFC 4180, that stands where a number has to, that would hold a member or a header, or
-//! after which a member would lose its columns, counts as never closed.
-use crate::columns::{is_number, Columns};
-use crate::fields::Fields;
+//! A quoted field may hold line breaks; its line then reaches over several. A quote that is not closed in the way of RFC 4180, or
+//! that stands where a number has to, counts as never closed: it spoils its own line. Where a quote is closed so far down that
+//! members would be lost, it cannot be told which of its quotes is the mistake, and the line says so.
+use crate::columns::{is_number, Columns, NUMBERS_OF_A_MEMBER};
 use crate::header;
-use std::ops::Range;
 use std::slice;
-
-/// A line with so many numbers is a member's.
-const NUMBERS_OF_A_MEMBER: usize = 3;
 
 /// What is known of a line's fields before it is read.
 #[derive(Clone, Copy)]
@@ -27,6 +22,15 @@ pub struct Line<'a> {
     pub number: u64,
     /// Without the line's end.
     pub text: &'a [u8],
+    /// The line in which a quote of this one may be closed, if members would then be lost.
+    pub closed_in: Option<u64>,
+}
+
+/// Where a line ends.
+struct End {
+    at: usize,
+    /// Where a quote may be closed that counts as never closed.
+    doubt: Option<usize>,
 }
 
 /// The lines that are still to come.
@@ -50,13 +54,17 @@ impl<'a> Lines<'a> {
         if self.rest.is_empty() {
             return None;
         }
-        let (text, rest) = self.rest.split_at(end_of_fields(self.rest, shape));
+        let end = shape
+            .end_of_header(self.rest)
+            .unwrap_or_else(|| end_of_fields(self.rest, shape));
+        let number = self.ends + 1;
         let line = Line {
-            number: self.ends + 1,
-            text,
+            number,
+            text: &self.rest[..end.at],
+            closed_in: end.doubt.map(|close| number + ends_in(&self.rest[..close])),
         };
-        self.ends += ends_in(text) + 1;
-        self.rest = after_end(rest);
+        self.ends += ends_in(line.text) + 1;
+        self.rest = after_end(&self.rest[end.at..]);
         Some(line)
     }
 }
@@ -77,26 +85,47 @@ impl Shape<'_> {
         }
     }
 
-    /// Whether the line in which a field at this place is closed is a member by itself, whose numbers stand in more columns of
+    /// Where the header ends that begins here, of a further page, if it is one whose headings hold line breaks.
+    fn end_of_header(&self, text: &[u8]) -> Option<End> {
+        let Shape::In(columns) = self else {
+            return None;
+        };
+        let separators = slice::from_ref(&columns.separator);
+        if !header::is_open(&text[..end_of_line(text, 0)], separators) {
+            return None;
+        }
+        let end = end_of_fields(text, Shape::Separated(separators));
+        header::is_certain(&text[..end.at], separators).then_some(end)
+    }
+
+    /// Whether a line is a member's or a header.
+    fn is_no_text(&self, line: &[u8]) -> bool {
+        let numbers = match self {
+            Shape::In(columns) => columns.numbers_from(0, line),
+            Shape::Separated(separators) => {
+                let counts = separators.iter().map(|separator| {
+                    let fields = line.split(|byte| byte == separator);
+                    fields.filter(|field| is_number(field, *separator)).count()
+                });
+                counts.max().unwrap_or(0)
+            }
+        };
+        numbers >= NUMBERS_OF_A_MEMBER || header::is_certain(line, self.separators())
+    }
+
+    /// Whether the line in which a field at this place is closed is a member by itself, more of whose numbers stand in columns of
     /// cells than after this field.
     fn is_member_apart(&self, place: usize, line: &[u8], after_field: &[u8]) -> bool {
         let Shape::In(columns) = self else {
             return false;
         };
-        let is_number = |field: &[u8]| is_number(field, columns.separator);
-        let numbers_from = |place: usize, fields: &[u8]| {
-            (place..)
-                .zip(Fields::of(fields, columns.separator))
-                .filter(|(place, field)| columns.is_cell(*place) && is_number(field))
-                .count()
-        };
-        let apart = numbers_from(0, line);
-        apart >= NUMBERS_OF_A_MEMBER && apart > numbers_from(place, after_field)
+        let apart = columns.numbers_from(0, line);
+        apart >= NUMBERS_OF_A_MEMBER && apart > columns.numbers_from(place, after_field)
     }
 }
 
 /// Where the line ends that begins here, with the line breaks that its quoted fields hold.
-fn end_of_fields(text: &[u8], shape: Shape) -> usize {
+fn end_of_fields(text: &[u8], shape: Shape) -> End {
     let separators = shape.separators();
     let mut end = end_of_line(text, 0);
     let mut field = 0;
@@ -106,11 +135,15 @@ fn end_of_fields(text: &[u8], shape: Shape) -> usize {
             let inside = field + 1;
             match closing_quote(text, inside) {
                 Some(close) if close < end => after = close + 1,
-                Some(close) if holds_breaks(text, inside..close, place, shape) => {
+                Some(close) if shape.is_text(place) && is_closed(text, close, separators) => {
+                    if loses_a_member(text, inside, close, place, shape) {
+                        let doubt = Some(close);
+                        return End { at: end, doubt };
+                    }
                     after = close + 1;
                     end = end_of_line(text, after);
                 }
-                _ => return end,
+                _ => break,
             }
         }
         let separator = text[after..end]
@@ -121,7 +154,10 @@ fn end_of_fields(text: &[u8], shape: Shape) -> usize {
             None => break,
         }
     }
-    end
+    End {
+        at: end,
+        doubt: None,
+    }
 }
 
 /// Where the next quote stands that is not doubled.
@@ -136,33 +172,22 @@ fn closing_quote(text: &[u8], inside: usize) -> Option<usize> {
     }
 }
 
-/// Whether what stands between two quotes of different lines is the field at this place.
-fn holds_breaks(text: &[u8], inside: Range<usize>, place: usize, shape: Shape) -> bool {
-    let after = inside.end + 1;
-    let is_closed = match text.get(after) {
-        Some(next) => is_end(next) || shape.separators().contains(next),
+/// Whether a quote closes a field: RFC 4180.
+fn is_closed(text: &[u8], close: usize, separators: &[u8]) -> bool {
+    match text.get(close + 1) {
+        Some(next) => is_end(next) || separators.contains(next),
         None => true,
-    };
-    let last_line = text[..inside.end]
-        .iter()
-        .rposition(is_end)
-        .map_or(0, |at| at + 1);
-    let end = end_of_line(text, after);
-    let swallowed = text[inside].split(is_end);
-    shape.is_text(place)
-        && is_closed
-        && !swallowed.into_iter().any(|line| is_no_text(line, shape))
-        && !shape.is_member_apart(place, &text[last_line..end], &text[after..end])
+    }
 }
 
-/// Whether a line is a member's or a header.
-fn is_no_text(line: &[u8], shape: Shape) -> bool {
-    let is_member = |separator: &u8| {
-        let fields = line.split(|byte| byte == separator);
-        let numbers = fields.filter(|field| is_number(field, *separator));
-        numbers.take(NUMBERS_OF_A_MEMBER).count() == NUMBERS_OF_A_MEMBER
-    };
-    shape.separators().iter().any(is_member) || header::found_in(line, shape.separators()).is_some()
+/// Whether a member, or a header, would be lost if what stands between two quotes of different lines were one field.
+fn loses_a_member(text: &[u8], inside: usize, close: usize, place: usize, shape: Shape) -> bool {
+    let mut swallowed = text[inside..close].split(is_end);
+    let start = text[..close].iter().rposition(is_end);
+    let last_line = start.map_or(0, |at| at + 1);
+    let end = end_of_line(text, close);
+    swallowed.any(|line| shape.is_no_text(line))
+        || shape.is_member_apart(place, &text[last_line..end], &text[close + 1..end])
 }
 
 fn is_end(byte: &u8) -> bool {

@@ -1,7 +1,7 @@
 //! `sheet FILE.csv`: the verdicts on a sheet of members, as a table or as columns beside the input, or its rows packed.
 use lvl_sheet::answer_columns::{AnswerColumns, Lettering};
 use lvl_sheet::encoding::Encoding;
-use lvl_sheet::input;
+use lvl_sheet::input::{self, Input};
 use lvl_sheet::options::{self, Command, Destination, Form, Request};
 use lvl_sheet::output;
 use lvl_sheet::packed_rows::PackedRows;
@@ -10,6 +10,7 @@ use lvl_sheet::table::Table;
 use lvl_sheet::tally::Tally;
 use lvl_sheet::text::shown_path;
 use lvl_sheet::{go_through, notes};
+use std::fs;
 use std::io::{self, ErrorKind, IsTerminal, Write};
 use std::process::ExitCode;
 
@@ -47,13 +48,12 @@ fn help() -> u8 {
 
 /// Reads the sheet, answers it as a whole, and shows the count: below the table, otherwise on the error output.
 fn answered(request: &Request) -> Result<Tally, Failure> {
-    let to_standard_output = request.destination == Destination::StandardOutput;
-    let bytes = input::read(&request.source, to_standard_output)
-        .map_err(|problem| of_sheet(request, &problem))?;
-    let (tally, mut answers) =
-        gone_through(&bytes, request).map_err(|problem| of_sheet(request, &problem))?;
+    let of_sheet = |problem: String| of_sheet(request, &problem);
+    let input = input::read(&request.source).map_err(of_sheet)?;
+    refuse_to_overwrite(&input, request).map_err(of_sheet)?;
+    let (tally, mut answers) = gone_through(&input.bytes, request).map_err(of_sheet)?;
     if tally.rows == 0 {
-        return Err(of_sheet(request, "there are no rows"));
+        return Err(of_sheet("there are no rows".to_owned()));
     }
     if request.form == Form::Table {
         answers.extend(format!("\n{}\n", tally.judged()).into_bytes());
@@ -65,6 +65,25 @@ fn answered(request: &Request) -> Result<Tally, Failure> {
         Form::Packed => notes::say(&tally.packed()),
     }
     Ok(tally)
+}
+
+/// An error where the answers would take the place of the sheet: only `--csv` writes it again.
+fn refuse_to_overwrite(input: &Input, request: &Request) -> Result<(), String> {
+    let (target, problem) = match &request.destination {
+        Destination::StandardOutput => (
+            output::of_standard_output(),
+            "standard output leads into the sheet itself, so nothing is written; -o FILE replaces a file when all is done",
+        ),
+        Destination::File(path) if request.form != Form::Csv => (
+            fs::metadata(path),
+            "-o names the sheet itself, and only --csv writes a sheet again: nothing is written",
+        ),
+        Destination::File(_) => return Ok(()),
+    };
+    match target {
+        Ok(target) if input.is_of(&target) => Err(problem.to_owned()),
+        _ => Ok(()),
+    }
 }
 
 /// The answers in the form asked for; an error where the sheet is not clear.

@@ -1,5 +1,5 @@
 //! The first lines of a sheet: a hint at its separator, title lines, its header.
-use crate::columns::{is_number, Basis, ColumnOptions, Columns};
+use crate::columns::{is_number, Basis, ColumnOptions, Columns, NUMBERS_OF_A_MEMBER};
 use crate::fields::{self, Fields, SEPARATORS};
 use crate::lines::{Line, Lines, Shape};
 use crate::separator;
@@ -12,11 +12,8 @@ pub const LOOKED_AT: usize = 30;
 /// So many lines are read ahead at most, blank ones with them.
 const READ_AHEAD: usize = 10_000;
 
-/// A line above the header with so many numbers, in fields like those of the header, may be a member.
-const NUMBERS_OF_A_MEMBER: usize = 2;
-
-/// And one with so many in fields that are separated otherwise: a title may list some axes.
-const NUMBERS_IF_SEPARATED_OTHERWISE: usize = 5;
+/// A line above the header that is separated otherwise has so many numbers if it is a member's: a title may list some axes.
+const NUMBERS_IF_SEPARATED_OTHERWISE: usize = 7;
 
 /// How much of a line is quoted.
 const QUOTED: usize = 60;
@@ -158,12 +155,12 @@ fn below_header<'a>(
 fn pass_over(line: &Line, header: &Line, columns: &Columns) -> Result<String, String> {
     let quoted = quoted(line);
     let number = header.number;
-    if may_be_a_member(line, columns.separator) {
+    if may_be_a_member(line, columns) {
         return Err(format!(
             "{quoted} looks like a member, but stands above the header in line {number}"
         ));
     }
-    if let Basis::Headings(_) = columns.basis {
+    if columns.basis == Basis::Headings {
         unit_lines::above_header(line, columns).map_or(Ok(()), Err)?;
     }
     Ok(format!(
@@ -171,16 +168,13 @@ fn pass_over(line: &Line, header: &Line, columns: &Columns) -> Result<String, St
     ))
 }
 
-fn may_be_a_member(line: &Line, separator: u8) -> bool {
-    SEPARATORS.iter().any(|other| {
-        let enough = match *other == separator {
-            true => NUMBERS_OF_A_MEMBER,
-            false => NUMBERS_IF_SEPARATED_OTHERWISE,
-        };
-        let fields = Fields::of(line.text, *other);
-        let numbers = fields.filter(|field| is_number(field, *other));
-        numbers.take(enough).count() == enough
-    })
+fn may_be_a_member(line: &Line, columns: &Columns) -> bool {
+    columns.numbers_from(0, line.text) >= NUMBERS_OF_A_MEMBER
+        || SEPARATORS.iter().any(|separator| {
+            let fields = Fields::of(line.text, *separator);
+            let numbers = fields.filter(|field| is_number(field, *separator));
+            numbers.take(NUMBERS_IF_SEPARATED_OTHERWISE).count() == NUMBERS_IF_SEPARATED_OTHERWISE
+        })
 }
 
 fn without_header<'a>(

@@ -1,8 +1,14 @@
 //! Where the answers go, all at once: to standard output, or to a file that is replaced as a whole.
 use std::ffi::OsString;
-use std::fs::{self, File, OpenOptions};
+use std::fs::{self, File, Metadata, OpenOptions};
 use std::io::{self, Write};
+use std::os::fd::AsFd;
 use std::path::{Path, PathBuf};
+
+/// What is known of the file that standard output leads into.
+pub fn of_standard_output() -> io::Result<Metadata> {
+    File::from(io::stdout().as_fd().try_clone_to_owned()?).metadata()
+}
 
 pub fn to_standard_output(bytes: &[u8]) -> io::Result<()> {
     let mut output = io::stdout().lock();

@@ -16,8 +16,18 @@ const QUOTED: usize = 24;
 pub fn reason(refused: Refused, row: &SheetRow) -> String {
     match refused {
         Refused::ByAddin(refusal) => of_addin(refusal, row),
+        Refused::OpenQuote => open_quote(row),
         Refused::ExtraColumn => extra_column(row),
     }
+}
+
+/// For a row with a quote that may have swallowed cells.
+fn open_quote(row: &SheetRow) -> String {
+    let Some((column, field)) = row.open_quote() else {
+        return "no quote is open".to_owned();
+    };
+    let text = shown(&String::from_utf8_lossy(&field), QUOTED);
+    format!("column {column}: the quote that begins {text} is not closed")
 }
 
 /// "cell 9 moment M: blank, but kind 2 needs it".
@@ -45,7 +55,7 @@ fn extra_column(row: &SheetRow) -> String {
     };
     let text = shown(&String::from_utf8_lossy(&field), QUOTED);
     match row.columns.basis {
-        Basis::Headings(_) => format!("column {column}: \"{text}\" stands below no heading"),
+        Basis::Headings => format!("column {column}: \"{text}\" stands below no heading"),
         Basis::NoHeader | Basis::Asked => {
             let last = words::cell_words(CELLS).map_or("", |words| words.name);
             format!("column {column}: \"{text}\" stands past the last cell, {CELLS} {last}")

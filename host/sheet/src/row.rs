@@ -33,6 +33,8 @@ pub enum Outcome {
 #[derive(Clone, Copy, Debug, PartialEq, Eq)]
 pub enum Refused {
     ByAddin(Refusal),
+    /// Not shown to the add-in: a quote is open, so that a field may have swallowed others.
+    OpenQuote,
     /// Not shown to the add-in: a column that holds nothing known is filled.
     ExtraColumn,
 }
@@ -75,18 +77,27 @@ impl<'a> SheetRow<'a> {
         entry::pack(&self.host_row()?).map_err(Refused::ByAddin)
     }
 
-    /// The cells for the add-in, unless a field without a heading makes it unclear which are meant.
+    /// The cells for the add-in, unless it is not clear which are meant.
     fn host_row(&self) -> Result<HostRow, Refused> {
-        match self.extra_column() {
-            Some(_) => Err(Refused::ExtraColumn),
-            None => Ok(self.cells.map(Typed::host_cell)),
+        if self.open_quote().is_some() {
+            Err(Refused::OpenQuote)
+        } else if self.extra_column().is_some() {
+            Err(Refused::ExtraColumn)
+        } else {
+            Ok(self.cells.map(Typed::host_cell))
         }
     }
 
-    /// Whether text stands where a number has to, or a quote is not closed: the line may be no row.
-    pub fn has_text_for_numbers(&self) -> bool {
-        let is_open = |field: &Cow<[u8]>| field.starts_with(b"\"");
-        self.cells.contains(&Typed::Text) || self.fields.iter().any(is_open)
+    /// Whether text stands where a number has to, a quote is open, or all is one field: the line may be no row.
+    pub fn may_be_no_row(&self) -> bool {
+        self.cells.contains(&Typed::Text) || self.open_quote().is_some() || self.fields.len() == 1
+    }
+
+    /// The first column with an open quote: its number in the file, from 1, and its content.
+    pub fn open_quote(&self) -> Option<(usize, Cow<'a, [u8]>)> {
+        let fields = self.fields.iter().cloned().chain(self.extra.clone());
+        let is_open = |field: &[u8]| fields::is_open(field, self.columns.separator);
+        (1..).zip(fields).find(|(_, field)| is_open(field))
     }
 
     /// The first filled column that holds nothing known: its number in the file, from 1, and its content.

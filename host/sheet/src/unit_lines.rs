@@ -1,8 +1,8 @@
 //! Lines that say in which units the columns are: they have to be those of the cells.
-use crate::columns::{Column, Columns};
+use crate::columns::{is_number, Column, Columns};
 use crate::fields::Fields;
 use crate::header::has_number;
-use crate::headings::{self, Heading};
+use crate::headings::{self, Heading, Meaning};
 use crate::lines::Line;
 use crate::text::shown;
 use crate::{units, words};
@@ -13,31 +13,52 @@ const QUOTED: usize = 40;
 /// So many units in a line are no chance, not even beside numbers.
 const CERTAIN: usize = 2;
 
+/// The cells of width and height: in a line that has numbers there, units stand in the place of numbers.
+const SECTION: [usize; 2] = [6, 7];
+
 /// What is wrong with a line of units below the header, if it is one.
 pub fn below_header(line: &Line, columns: &Columns) -> Option<String> {
-    let units: Vec<UnitField> = fields_of_cells(line, columns)
-        .filter(|field| units::is_any(&field.words) && !units::is("", &field.words))
-        .collect();
-    if units.len() < CERTAIN && has_number(line.text, columns.separator) {
+    let fields = fields_of_cells(line, columns);
+    let is_of_section = |field: &&UnitField| SECTION.contains(&field.cell);
+    let is_number = |field: &UnitField| is_number(field.text.as_bytes(), columns.separator);
+    let mut section = fields.iter().filter(is_of_section).peekable();
+    if section.peek().is_some() && section.all(is_number) {
         return None;
     }
-    let foreign = units.iter().find(|field| field.is_foreign(&field.words))?;
-    Some(foreign.problem(line))
+    let units: Vec<&UnitField> = fields
+        .iter()
+        .filter(|field| units::is_any(&field.words) && !units::is("", &field.words))
+        .collect();
+    let is_without_numbers = !has_number(line.text, columns.separator);
+    if is_without_numbers || units.len() >= CERTAIN {
+        let foreign = |field: &&UnitField| !units::is(field.own_unit(), &field.words);
+        if let Some(field) = units.into_iter().find(foreign) {
+            return Some(field.problem(line));
+        }
+    }
+    let has_force = |field: &&UnitField| units::has_foreign_force(&field.words);
+    let field = fields
+        .iter()
+        .find(has_force)
+        .filter(|_| is_without_numbers)?;
+    Some(field.problem(line))
 }
 
-/// What is wrong with a line above the header: a unit, alone or after words, that is not that of the cell below it.
-///
-/// A title in the first column, or above a cell without a unit, is no heading of a group.
+/// What is wrong with a line above the header: a unit of forces that no cell has, or above a cell a unit that is not its own.
 pub fn above_header(line: &Line, columns: &Columns) -> Option<String> {
-    let mut fields = fields_of_cells(line, columns);
-    let foreign = fields.find(|field| {
-        let mut endings = (0..field.words.len()).map(|from| &field.words[from..]);
-        let unit = endings.find(|ending| units::is_any(ending));
-        field.place > 0
-            && !field.own_unit().is_empty()
-            && unit.is_some_and(|unit| !units::is("", unit) && field.is_foreign(unit))
-    })?;
-    Some(foreign.problem(line))
+    let mut fields = Fields::of(line.text, columns.separator).enumerate();
+    let of_forces = fields.find_map(|(place, field)| {
+        let text = String::from_utf8_lossy(&field);
+        let has_force = units::has_foreign_force(&headings::words_of(&text));
+        let problem = "forces have to be in N, moments in N·mm";
+        has_force.then(|| in_column(line, place, &text, problem))
+    });
+    let of_cells = || {
+        let fields = fields_of_cells(line, columns);
+        let foreign = fields.iter().find(|field| field.ends_in_foreign_unit());
+        foreign.map(|field| field.problem(line))
+    };
+    of_forces.or_else(of_cells)
 }
 
 /// A field in the column of a cell.
@@ -48,25 +69,24 @@ struct UnitField {
     words: Vec<String>,
 }
 
-fn fields_of_cells<'a>(
-    line: &Line<'a>,
-    columns: &'a Columns,
-) -> impl Iterator<Item = UnitField> + 'a {
+fn fields_of_cells(line: &Line, columns: &Columns) -> Vec<UnitField> {
     let fields = Fields::of(line.text, columns.separator);
     let placed = columns.iter().zip(fields).enumerate();
-    placed.filter_map(|(place, (column, field))| {
-        let Column::Holds(Heading::Cell(cell)) = column else {
-            return None;
-        };
-        let text = String::from_utf8_lossy(&field).into_owned();
-        let words = headings::words_of(&text);
-        Some(UnitField {
-            place,
-            cell,
-            text,
-            words,
+    placed
+        .filter_map(|(place, (column, field))| {
+            let Column::Holds(Heading::Cell(cell)) = column else {
+                return None;
+            };
+            let text = String::from_utf8_lossy(&field).into_owned();
+            let words = headings::words_of(&text);
+            Some(UnitField {
+                place,
+                cell,
+                text,
+                words,
+            })
         })
-    })
+        .collect()
 }
 
 impl UnitField {
@@ -74,17 +94,30 @@ impl UnitField {
         words::cell_words(self.cell).map_or("", |words| words.unit)
     }
 
-    fn is_foreign(&self, unit: &[String]) -> bool {
-        !units::is(self.own_unit(), unit)
+    /// Whether the text is, or ends after a comma or in brackets with, a unit that is not the cell's.
+    ///
+    /// A symbol, as h in "b, h", is no unit.
+    fn ends_in_foreign_unit(&self) -> bool {
+        let ending = self.text.rsplit([',', '(', '[']).next().unwrap_or("");
+        let unit = headings::words_of(ending);
+        let is_symbol = matches!(headings::read(ending), Meaning::Known(_));
+        !is_symbol
+            && !self.own_unit().is_empty()
+            && units::is_any(&unit)
+            && !units::is("", &unit)
+            && !units::is(self.own_unit(), &unit)
     }
 
     fn problem(&self, line: &Line) -> String {
-        format!(
-            "line {}, column {}, \"{}\": {}",
-            line.number,
-            self.place + 1,
-            shown(&self.text, QUOTED),
-            words::unit_wanted(self.cell)
-        )
+        in_column(line, self.place, &self.text, &words::unit_wanted(self.cell))
     }
+}
+
+fn in_column(line: &Line, place: usize, text: &str, problem: &str) -> String {
+    format!(
+        "line {}, column {}, \"{}\": {problem}",
+        line.number,
+        place + 1,
+        shown(text, QUOTED)
+    )
 }

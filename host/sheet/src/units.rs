@@ -1,4 +1,5 @@
 //! Units as they stand after a name in a heading.
+use std::collections::HashMap;
 use std::sync::LazyLock;
 
 /// How the units of `words` are spelt; Cyrillic spellings follow by their letters.
@@ -24,32 +25,65 @@ const SPELLINGS: &[(&str, &[&str])] = &[
     ),
 ];
 
-/// Units that no cell has, and that stand in other tables for the same quantities.
+/// Units of forces and moments that no cell has: what is typed in them would be far too small.
+#[rustfmt::skip]
+const FOREIGN_FORCES: &[&str] = &[
+    "kN", "MN", "daN", "kgf", "кгс", "tf", "тс", "тыс. Н", "kip", "kips", "lbf",
+    "N·m", "N·cm", "kN·m", "kN·cm", "kN·mm", "MN·m", "kgf·m", "кгс·м", "кгс·см", "tf·m", "тс·м", "kip·ft",
+];
+
+/// Other units that no cell has, and that stand in other tables for the same quantities.
 #[rustfmt::skip]
 const FOREIGN: &[&str] = &[
-    "cm", "dm", "m", "km", "in", "ft",
-    "kN", "MN", "daN", "kgf", "кгс", "kg", "tf", "тс", "t",
-    "N·m", "N·cm", "kN·m", "kN·cm", "kN·mm", "MN·m", "kgf·m", "кгс·м", "кгс·см", "tf·m", "тс·м", "t·m",
-    "Pa", "kPa", "MPa", "N/mm²", "N/cm²", "kN/cm²", "kN/m²", "kgf/cm²", "кгс/см²",
+    "cm", "dm", "m", "km", "in", "ft", "kg", "t", "t·m",
+    "Pa", "kPa", "MPa", "psi", "N/mm²", "N/cm²", "kN/cm²", "kN/m²", "kgf/cm²", "кгс/см²",
     "N/m", "N/mm", "kN/m", "mm²", "cm²", "m²",
 ];
 
+#[derive(Clone, Copy, Debug, PartialEq, Eq)]
+enum Unit {
+    /// One of `words`.
+    Own(&'static str),
+    ForeignForce,
+    Foreign,
+}
+
 /// Whether these words are a spelling of the unit.
 pub fn is(unit: &str, given: &[String]) -> bool {
-    let given = key(without_preposition(given));
-    key_of(unit) == given
-        || SPELLINGS
-            .iter()
-            .filter(|(spelt, _)| *spelt == unit)
-            .any(|(_, spellings)| spellings.iter().any(|spelling| key_of(spelling) == given))
+    matches!(read(given), Some(Unit::Own(own)) if own == unit)
 }
 
 /// Whether these words are a unit at all.
 pub fn is_any(given: &[String]) -> bool {
-    static FOREIGN_KEYS: LazyLock<Vec<String>> =
-        LazyLock::new(|| FOREIGN.iter().map(|unit| key_of(unit)).collect());
-    SPELLINGS.iter().any(|(unit, _)| is(unit, given))
-        || FOREIGN_KEYS.contains(&key(without_preposition(given)))
+    read(given).is_some()
+}
+
+/// Whether one of these words is a unit of forces that no cell has, or two are thousands of one.
+pub fn has_foreign_force(words: &[String]) -> bool {
+    let thousands = words.windows(2).filter(|pair| pair[0] == "тыс");
+    words
+        .chunks(1)
+        .chain(thousands)
+        .any(|part| read(part) == Some(Unit::ForeignForce))
+}
+
+fn read(given: &[String]) -> Option<Unit> {
+    static BY_KEY: LazyLock<HashMap<String, Unit>> = LazyLock::new(by_key);
+    BY_KEY.get(&key(without_preposition(given))).copied()
+}
+
+fn by_key() -> HashMap<String, Unit> {
+    let own = SPELLINGS.iter().flat_map(|(unit, spellings)| {
+        let all = [unit].into_iter().chain(*spellings);
+        all.map(|spelling| (*spelling, Unit::Own(unit)))
+    });
+    let forces = FOREIGN_FORCES
+        .iter()
+        .map(|unit| (*unit, Unit::ForeignForce));
+    let others = FOREIGN.iter().map(|unit| (*unit, Unit::Foreign));
+    let all = own.chain(forces).chain(others);
+    all.map(|(spelling, unit)| (key(&crate::headings::words_of(spelling)), unit))
+        .collect()
 }
 
 /// "in mm", "в мм"; alone, "in" is an inch.
@@ -58,10 +92,6 @@ fn without_preposition(given: &[String]) -> &[String] {
         [first, rest @ ..] if !rest.is_empty() && (first == "in" || first == "в") => rest,
         _ => given,
     }
-}
-
-fn key_of(unit: &str) -> String {
-    key(&crate::headings::words_of(unit))
 }
 
 /// Without signs of multiplication, dashes and powers, and with Latin letters for the Cyrillic ones of the same sound.

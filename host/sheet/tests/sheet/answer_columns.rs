@@ -118,3 +118,15 @@ fn an_answers_heading_alone_stops_the_sheet() {
         assert_eq!(run.err.contains(skip), options.len() == 3);
     }
 }
+
+/// A line of quotes alone is blank here; other programs would take the rows below for its text.
+#[test]
+fn blank_lines_of_quotes_are_written_whole() {
+    let out = csv(format!("{HEADER}\n{ROW_A}\n\"\n{ROW_E}\n\"\n")).out;
+    let lines: Vec<&str> = out.lines().collect();
+    assert_eq!(
+        (lines.len(), lines[2], lines[4]),
+        (5, "\"\"\"\"", "\"\"\"\"")
+    );
+    assert_eq!(csv(&out).out, out);
+}

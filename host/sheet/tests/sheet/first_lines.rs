@@ -71,12 +71,12 @@ fn a_header_is_looked_for_in_thirty_lines() {
     assert_eq!(further_down.code, 2);
     assert!(further_down
         .err
-        .contains("line 31 is a header, but rows stand above it"));
+        .contains("line 31 is another header: one table a sheet"));
 }
 
 #[test]
 fn a_member_above_the_header_stops_the_sheet() {
-    for above in [ROW_A, "A,2,1", "x,y,3,4,z"] {
+    for above in [ROW_A, "A,2,1,3,10,1000"] {
         let run = table(format!("Hall\n{above}\n{HEADER}\n{ROW_B}\n"));
         assert_eq!((run.code, run.out.as_str()), (2, ""));
         let end = "looks like a member, but stands above the header in line 3\n";

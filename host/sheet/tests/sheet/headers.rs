@@ -1,5 +1,5 @@
 //! Columns by their headings: any order, unknown and doubled ones, other units, those passed over, cells by position.
-use crate::common::{by_position, hall_roof, table, Scratch, HEADER, ROW_A, ROW_B, ROW_E};
+use crate::common::{by_position, csv, hall_roof, table, Scratch, HEADER, ROW_A, ROW_B, ROW_E};
 
 /// A table with its columns in another order, the first of them last.
 fn turned(content: &str) -> String {
@@ -174,11 +174,23 @@ fn units_above_the_header_are_held_against_the_cells() {
     for (above, message) in [
         (
             "Member;;;;;;Section, mm;;Forces, kN;;;;;",
-            "line 1, column 9, \"Forces, kN\": axial force N has to be in N\n",
+            "line 1, column 9, \"Forces, kN\": forces have to be in N, moments in N·mm\n",
+        ),
+        (
+            "Усилия в кН (расчётные);;",
+            "line 1, column 1, \"Усилия в кН (расчётные)\": forces have to be in N, moments in N·mm\n",
+        ),
+        (
+            ";;;;;;;;усилия, тыс. Н;;;;;",
+            "line 1, column 9, \"усилия, тыс. Н\": forces have to be in N, moments in N·mm\n",
+        ),
+        (
+            ";;;;;;;;;;;Lengths, cm;;",
+            "line 1, column 12, \"Lengths, cm\": effective length Lh has to be in mm\n",
         ),
         (
             ";;;;;;mm;mm;Н;кНм;кН;мм;мм;",
-            "line 1, column 10, \"кНм\": moment M has to be in N·mm\n",
+            "line 1, column 10, \"кНм\": forces have to be in N, moments in N·mm\n",
         ),
     ] {
         let message_given = stopped(&format!("{above}\n{header}\n{row}\n"), &[]);
@@ -188,6 +200,11 @@ fn units_above_the_header_are_held_against_the_cells() {
         "Hall, span 24 m",
         ";Hall, span 24 m;",
         ";;;;;;Section, mm;;Forces, N;;;;;",
+        ";;;;;;Section b x h;;Усилия N и M;;;Effective length across h;;",
+        ";;;;;;Dimensions b, h;;Forces, N / N·mm;;;Длины, мм;;",
+        "Шифр;2024-15;;Лист;1;Листов;5",
+        "Прогоны по осям 1, 2, 3, 4, 5, 6",
+        "Снеговая нагрузка 1,8 кПа, ветер 0,3 кН/м",
         ";;;;%;‰;мм;мм;Н;Н·мм;Н;мм;мм;–",
     ] {
         let run = table(format!("{above}\n{header}\n{row}\n"));
@@ -204,12 +221,19 @@ fn units_beside_numbers_and_further_down_are_held_against_the_cells() {
         ",,,,%,0.001,mm,mm,kN,kNm,kN",
         "units,1,1,1,%,‰,mm,mm,kN",
         ",,,,,,мм,см",
+        ",,,,,,mm,mm,\"max, kN\",\"max, kN·m\"",
+        ",,,,,,mm,mm,тыс. Н",
+        ",,,,,,,,kip",
     ] {
         let message = stopped(&sheet(units), &[]);
         assert!(message.contains("line 4, column "), "{message}");
         assert!(message.contains(" has to be in "), "{message}");
     }
-    for row in ["x,2,1,3,10,1000,75,300,kN,20000000,20000", "y,mm,2"] {
+    for row in [
+        "x,2,1,3,10,1000,75,300,kN,20000000,20000",
+        "x,2,1,3,10,1000,75,300,t,m,20000",
+        "y,mm,2",
+    ] {
         assert_eq!(
             Scratch::new(sheet(row).as_bytes()).run(&[]).code,
             1,
@@ -236,7 +260,7 @@ fn a_header_with_a_number_in_it_stops_the_sheet() {
     assert_eq!(table("h,b,5\n").code, 1);
     // The same further down.
     let further_down = format!("{HEADER}\n{ROW_A}\n2,kind,grade,h,b\n{ROW_A}\n");
-    assert!(stopped(&further_down, &[]).contains("line 3 is a header"));
+    assert!(stopped(&further_down, &[]).contains("line 3 is another header"));
 }
 
 #[test]
@@ -345,15 +369,27 @@ fn a_header_below_rows_stops_the_sheet() {
         let content = format!("{above}\n{rows}{header}\n{ROW_A}\n");
         let stopped = table(&content);
         assert_eq!(stopped.code, 2);
-        let message = "line 42 is a header, but rows stand above it";
+        let message = "line 42 is another header: one table a sheet";
         assert!(stopped.err.contains(message), "{}", stopped.err);
         assert_eq!(by_position(&content).summary(), in_order);
     }
-    let repeated = table(format!("{HEADER},,\n{rows}{HEADER}\n{ROW_A}\n"));
-    assert_eq!(
-        repeated.summary(),
-        "42 rows: 41 passed, 0 failed, 1 refused"
-    );
+    let in_full = HEADER
+        .replace(",b,h,", ",\"width\nb, mm\",height h (mm),")
+        .replace("moisture", "Влажность");
+    for header in [HEADER, &in_full] {
+        for repeated in [HEADER, &in_full] {
+            let sheet = format!("{header},,\n{rows}{repeated}\n{ROW_A}\n");
+            let run = table(&sheet);
+            assert_eq!(
+                run.summary(),
+                "42 rows: 41 passed, 0 failed, 1 refused",
+                "{}",
+                run.err
+            );
+            let written = csv(&sheet).out;
+            assert_eq!(csv(&written).out, written);
+        }
+    }
 }
 
 #[test]

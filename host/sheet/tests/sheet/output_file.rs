@@ -64,6 +64,14 @@ fn answers_go_to_a_file() {
     assert_eq!(read(&answers), table(sheet()).out);
     let mode = fs::metadata(&answers).unwrap().permissions().mode();
     assert_eq!(mode & 0o777, 0o640);
+    for options in [&[][..], &["--pack"]] {
+        let arguments = [options, &["-o", &sheet_file, &sheet_file]].concat();
+        let run = run(&arguments);
+        assert_eq!((run.code, read(&sheet_file)), (2, sheet()), "{}", run.err);
+        assert!(run
+            .err
+            .contains("-o names the sheet itself, and only --csv writes a sheet again"));
+    }
     run(&["--csv", &sheet_file, "-o", &sheet_file]);
     assert_eq!(read(&sheet_file), csv(sheet()).out);
     // A link stays a link.

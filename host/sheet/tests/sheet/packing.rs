@@ -64,7 +64,7 @@ fn a_sheet_that_is_not_clear_packs_nothing() {
     let rows = format!("{ROW_A}\n").repeat(40);
     let (code, out, err) = packed(&format!("{HEADER}\n{rows}{exchanged}\n{ROW_A}\n"));
     assert_eq!((code, out), (2, Vec::new()));
-    assert!(err.contains("line 42 is a header"), "{err}");
+    assert!(err.contains("line 42 is another header"), "{err}");
 }
 
 #[test]

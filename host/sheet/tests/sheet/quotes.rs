@@ -15,7 +15,12 @@ fn quotes() {
         &ROW_A.replace("75", "\"75\""),
     ]);
     assert!(run.line("A \"left\", axis 1").contains("69.1"));
-    assert!(run.line("\"B never closed").ends_with("cell 1 kind: blank"));
+    let reason = "column 1: the quote that begins \"B never closed,2,1,3,1… is not closed";
+    assert!(
+        run.line("\"B never closed").ends_with(reason),
+        "{}",
+        run.out
+    );
     assert!(run.line("C 3\" wide").contains("69.1"));
     assert_eq!(run.summary(), "4 rows: 3 passed, 0 failed, 1 refused");
 }
@@ -55,7 +60,7 @@ fn headings_may_hold_line_breaks() {
     }
 }
 
-/// Whatever follows: a quote that belongs to no field, one that opens another, one that closes, one that would swallow rows.
+/// Whatever follows: quotes that belong to no field, that open another, or that would close one where a number has to be.
 #[test]
 fn a_quote_that_is_never_closed_spoils_its_own_line_alone() {
     let opening = named("\"B never closed");
@@ -64,7 +69,6 @@ fn a_quote_that_is_never_closed_spoils_its_own_line_alone() {
         (opening.as_str(), ROW_A.to_owned()),
         (&opening, named("\"A, axes 1–2\"")),
         (&opening, named("A 3\" wide")),
-        (&opening, named("A 3\"")),
         (&opening, named("\"A \"\"left\"\"\"")),
         (&opening, ROW_A.replace("75", "\"75\"")),
         (&last, named("A 3\"")),
@@ -120,23 +124,45 @@ fn with_own_columns(rows: &[&str]) -> Run {
     Scratch::new(sheet.as_bytes()).run(&skip)
 }
 
-/// The inch mark below seems to close the remark, and the member's numbers would fall into columns that are passed over.
+/// The inch mark below seems to close the quote, and members would be lost: in columns that are passed over, or within the quote.
 #[test]
-fn a_member_does_not_vanish_into_columns_that_are_passed_over() {
+fn a_quote_that_may_swallow_members_stops_the_sheet() {
     let fails = "2,1,4,12,1000,75,300,29600000,21200";
     let passes = "2,1,4,12,1000,75,300,21400000,15800";
+    for (open, close) in [
+        (format!("P1,{passes},\"see dwg"), format!("P3 5\",{fails}")),
+        (format!("\"P1,{passes}"), format!("P3 5\",{fails}")),
+        (format!("P1,{passes},\"see dwg"), format!("P3,{fails},5\"")),
+    ] {
+        let run = with_own_columns(&[&open, &close]);
+        assert_eq!((run.code, run.out.as_str()), (2, ""), "{}", run.err);
+        let message = "line 2: a quote is open that line 3 may close, and members would be lost";
+        assert!(run.err.contains(message), "{}", run.err);
+    }
+    // A remark that is closed, with figures of the office's own in it and after it.
     let run = with_own_columns(&[
-        &format!("P1,{passes},\"see dwg"),
-        &format!("P3 5\",{fails}"),
-    ]);
-    assert_eq!(run.summary(), "2 rows: 1 passed, 1 failed, 0 refused");
-    assert!(run.line("P3 5\"").contains("102.3"), "{}", run.out);
-    // A remark that is closed, with figures of the office's own after it.
-    let run = with_own_columns(&[
-        &format!("P1,{passes},\"see dwg,\nrev. 2\",5,6"),
+        &format!("P1,{passes},\"axes 1, 2, 3,\nrev. 2\",5,6"),
         &format!("P3,{fails}"),
     ]);
     assert_eq!(run.summary(), "2 rows: 1 passed, 1 failed, 0 refused");
+}
+
+/// What an open quote holds may be the cells of a joint: the row is refused, and what `--csv` writes of it too.
+#[test]
+fn a_row_with_an_open_quote_is_refused() {
+    let header = HEADER.replace(",a,d,", ",remark,a,d,");
+    let joint = "75,24,3,1700,750,1200,2200,25,3100";
+    for remark in ["\"not closed", "\"ok,\"A\"", "\"ok,\"A\"\""] {
+        let row = format!("T1,1,1,4,12,800,150,350,455000,,,6000,6000,4,{remark},{joint}");
+        let skip = ["--skip", "remark", "--csv"];
+        let run = Scratch::new(format!("{header}\n{row}\n").as_bytes()).run(&skip);
+        assert!(run.out.contains(",refused,,,,open quote,"), "{}", run.out);
+        let again = Scratch::new(run.out.as_bytes()).run(&skip);
+        assert_eq!(again.out, run.out);
+        let table = Scratch::new(run.out.as_bytes()).run(&skip[..2]);
+        let reason = "column 15: the quote that begins \"";
+        assert!(table.line("T1 ").contains(reason), "{}", table.out);
+    }
 }
 
 /// Two load cases in one cell, a line break after a number, a quote that is not closed or closes too early: no number.
@@ -152,8 +178,9 @@ fn a_number_with_a_stray_quote_is_refused() {
     ] {
         let row = format!("P3,2,1,4,12,1000,75,300,,{m}");
         let run = table_of(&[&row, ROW_A]);
-        let reason = "cell 9 moment M: \"";
-        assert!(run.line("P3 ").contains(reason), "{m}: {}", run.out);
+        let reasons = ["cell 9 moment M: \"", "column 10: the quote that begins \""];
+        let is_told = reasons.map(|reason| run.line("P3 ").contains(reason));
+        assert!(is_told.contains(&true), "{m}: {}", run.out);
         assert!(run.line("A ").contains("69.1"), "{m}: {}", run.out);
         assert!(run.summary().contains(" 1 passed, 0 failed, "), "{m}");
     }
@@ -168,23 +195,31 @@ fn lines_that_are_not_one_field_stay_apart() {
         // Closed before a letter.
         ("\"A\n\"B\",x", 2),
         ("\"A\n\"B", 2),
-        // Three numbers in a line, and two.
-        ("\"A,1,2,3\nx\",y", 2),
-        ("\"A,1,2\nx\",y", 1),
-        ("\"A\n1,2,3\nx\",y", 3),
         // In the column of a cell, and past the last.
         ("A,\"x\ny\"", 2),
         (",,,,,,,,,,,,,,,,,,,,,,,,\"x\ny\"", 2),
-        // A header.
-        ("\"A\nwidth b,height h\nx\",y", 3),
+        // Four numbers in a line, and two headings.
+        ("\"A,1,2,3,4\nx\",y", 1),
+        ("\"A\n1,2,3,4\nx\",y", 1),
+        ("\"A\nwidth b,height h\nx\",y", 1),
     ] {
         let sheet = format!("{HEADER}\n{lines}\n");
         let run = Scratch::new(sheet.as_bytes()).run(&["--csv"]);
         let refused = format!("{rows} row");
-        match rows {
-            3 if lines.contains("width") => assert_eq!(run.code, 2, "{}", run.err),
-            _ => assert!(run.err.starts_with(&refused), "{lines}: {}", run.err),
-        }
+        assert!(run.err.starts_with(&refused), "{lines}: {}", run.err);
+    }
+    // Five numbers, and three headings.
+    for lines in [
+        "\"A,1,2,3,4,5\nx\",y",
+        "\"A\n,1,2,3,4,5\nx\",y",
+        "\"A\nb,h,N\nx\",y",
+    ] {
+        let run = table(format!("{HEADER}\n{lines}\n"));
+        assert!(
+            run.err.contains("line 2: a quote is open that line "),
+            "{lines}: {}",
+            run.err
+        );
     }
 }
 
