@@ -30,27 +30,29 @@ impl<'a> Fields<'a> {
 impl<'a> Iterator for Fields<'a> {
     type Item = Cow<'a, [u8]>;
 
-    /// A field whose quote is not closed, or is followed by more text, keeps its quotes: it is no number.
+    /// A quote that is not closed, or is followed by more text, is a letter like any other, and swallows no separator.
     fn next(&mut self) -> Option<Cow<'a, [u8]>> {
         let rest = self.rest?;
-        let quoted = match rest.strip_prefix(b"\"") {
-            None => None,
-            Some(inside) => match unquoted(inside) {
-                Some(quoted) => Some(quoted),
-                None => {
-                    self.rest = None;
-                    return Some(Cow::Borrowed(rest));
-                }
-            },
-        };
-        let after = quoted.as_ref().map_or(rest, |(_, after)| after);
-        let end = after.iter().position(|&byte| byte == self.separator);
-        self.rest = end.map(|at| &after[at + 1..]);
-        let tail = &after[..end.unwrap_or(after.len())];
-        Some(match quoted {
-            Some((content, _)) if is_empty(tail) => Cow::Owned(content),
-            _ => Cow::Borrowed(&rest[..rest.len() - after.len() + tail.len()]),
-        })
+        if let Some((content, after)) = rest.strip_prefix(b"\"").and_then(unquoted) {
+            let (tail, further) = self.cut(after);
+            if is_empty(tail) {
+                self.rest = further;
+                return Some(Cow::Owned(content));
+            }
+        }
+        let (field, further) = self.cut(rest);
+        self.rest = further;
+        Some(Cow::Borrowed(field))
+    }
+}
+
+impl<'a> Fields<'a> {
+    /// What stands before the next separator and what after it, if there is one.
+    fn cut(&self, text: &'a [u8]) -> (&'a [u8], Option<&'a [u8]>) {
+        match text.iter().position(|&byte| byte == self.separator) {
+            Some(at) => (&text[..at], Some(&text[at + 1..])),
+            None => (text, None),
+        }
     }
 }
 
@@ -72,12 +74,12 @@ fn unquoted(inside: &[u8]) -> Option<(Vec<u8>, &[u8])> {
     }
 }
 
-/// Whether a field begins with a quote that is not closed as it should be, so that it may have swallowed those after it.
+/// Whether a field begins with a quote that is not closed, so that it may have been meant to go on.
 ///
 /// Written as a field of its own, it is still seen to be one.
-pub fn is_open(field: &[u8], separator: u8) -> bool {
+pub fn is_open(field: &[u8]) -> bool {
     let quotes = field.iter().filter(|byte| **byte == b'"').count();
-    field.starts_with(b"\"") && (quotes % 2 == 1 || field.contains(&separator))
+    field.starts_with(b"\"") && quotes % 2 == 1
 }
 
 /// Whether a field has no content.

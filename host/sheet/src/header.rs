@@ -50,11 +50,11 @@ pub fn is_spoilt(line: &[u8], separators: &[u8]) -> bool {
     is_certain(line, separators) || is_open(line, separators)
 }
 
-/// Whether a line would be a header, were it not for an open quote, or for one around all of it.
+/// Whether a line would be a header, were it not for a quote that is open or around all of it.
 pub fn is_open(line: &[u8], separators: &[u8]) -> bool {
     let hides_fields = |separator: &u8| {
         let mut fields = Fields::of(line, *separator);
-        fields.clone().nth(1).is_none() || fields.any(|field| fields::is_open(&field, *separator))
+        fields.clone().nth(1).is_none() || fields.any(|field| fields::is_open(&field))
     };
     let bytes = line.iter().copied();
     let without_quotes = || -> Vec<u8> { bytes.filter(|byte| *byte != b'"').collect() };

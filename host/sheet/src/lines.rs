@@ -133,9 +133,9 @@ fn end_of_fields(text: &[u8], shape: Shape) -> End {
         let mut after = field;
         if text[field..end].starts_with(b"\"") {
             let inside = field + 1;
-            match closing_quote(text, inside) {
+            match closing_quote(text, inside, separators) {
                 Some(close) if close < end => after = close + 1,
-                Some(close) if shape.is_text(place) && is_closed(text, close, separators) => {
+                Some(close) if shape.is_text(place) => {
                     if loses_a_member(text, inside, close, place, shape) {
                         let doubt = Some(close);
                         return End { at: end, doubt };
@@ -143,7 +143,8 @@ fn end_of_fields(text: &[u8], shape: Shape) -> End {
                     after = close + 1;
                     end = end_of_line(text, after);
                 }
-                _ => break,
+                // A letter like any other.
+                _ => {}
             }
         }
         let separator = text[after..end]
@@ -160,23 +161,18 @@ fn end_of_fields(text: &[u8], shape: Shape) -> End {
     }
 }
 
-/// Where the next quote stands that is not doubled.
-fn closing_quote(text: &[u8], inside: usize) -> Option<usize> {
+/// Where the next quote stands that is not doubled, if it closes a field: a separator or a line end follows (RFC 4180).
+fn closing_quote(text: &[u8], inside: usize, separators: &[u8]) -> Option<usize> {
     let mut from = inside;
     loop {
         let at = from + text[from..].iter().position(|byte| *byte == b'"')?;
         if text.get(at + 1) != Some(&b'"') {
-            return Some(at);
+            let is_filling = |byte: &&u8| **byte == b' ';
+            let next = text[at + 1..].iter().find(|byte| !is_filling(byte));
+            let is_closed = next.map_or(true, |next| is_end(next) || separators.contains(next));
+            return is_closed.then_some(at);
         }
         from = at + 2;
-    }
-}
-
-/// Whether a quote closes a field: RFC 4180.
-fn is_closed(text: &[u8], close: usize, separators: &[u8]) -> bool {
-    match text.get(close + 1) {
-        Some(next) => is_end(next) || separators.contains(next),
-        None => true,
     }
 }
 

@@ -176,14 +176,15 @@ usage: sheet [--csv | --pack] [-o FILE] [--skip HEADING]... [--by-position] FILE
   --pack          writes the rows packed, as the program schedule reads them; a
                   row that cannot be packed is a blank row there, with a note
   -o FILE         writes to a file: a new one takes the old one's place when all
-                  is done, and until then the old one stands as it is
+                  is done, and until then the old one stands as it is; with --csv
+                  it may be the sheet itself
   --skip HEADING  passes over a column of your own: remarks, drawing
   --by-position   takes the cells in their order, whatever the headings say
   --              ends the options: what follows is a file
   --help          this text
 
 The sheet. A line is a row. A field in quotes may hold line breaks, but for a cell;
-a quote that is not closed spoils its own line. Fields are separated by commas,
+a row with a quote that is not closed is refused. Fields are separated by commas,
 semicolons or tabs: as a first line sep=; says, else as the header is best
 understood, else whichever the first line has most of. The text is UTF-8; UTF-16
 and Windows-1251 are recognised, with a note where no mark says so, and --csv
@@ -195,7 +196,8 @@ note. Each heading says what its column holds, in any order; a cell without a
 column is blank. A row with anything in a column without a heading is refused.
 What is not clear stops the sheet, and nothing is written: a heading that is not
 known, or is there twice; units other than the cells', in the header or in a line
-above or below it; a second header; a line above the header that may be a member.
+above or below it; a second header; a line above the header that may be a member;
+a quote that may have been closed lines below, with members between.
 
 Without a header, or with --by-position, the order decides: the members' names,
 unless the first column begins with a number or is headed \"kind\"; then follow

@@ -21,7 +21,7 @@ pub fn reason(refused: Refused, row: &SheetRow) -> String {
     }
 }
 
-/// For a row with a quote that may have swallowed cells.
+/// For a row with a quote that is not closed.
 fn open_quote(row: &SheetRow) -> String {
     let Some((column, field)) = row.open_quote() else {
         return "no quote is open".to_owned();

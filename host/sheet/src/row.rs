@@ -33,7 +33,7 @@ pub enum Outcome {
 #[derive(Clone, Copy, Debug, PartialEq, Eq)]
 pub enum Refused {
     ByAddin(Refusal),
-    /// Not shown to the add-in: a quote is open, so that a field may have swallowed others.
+    /// Not shown to the add-in: a quote is open, so that it is not clear where its field ends.
     OpenQuote,
     /// Not shown to the add-in: a column that holds nothing known is filled.
     ExtraColumn,
@@ -96,8 +96,7 @@ impl<'a> SheetRow<'a> {
     /// The first column with an open quote: its number in the file, from 1, and its content.
     pub fn open_quote(&self) -> Option<(usize, Cow<'a, [u8]>)> {
         let fields = self.fields.iter().cloned().chain(self.extra.clone());
-        let is_open = |field: &[u8]| fields::is_open(field, self.columns.separator);
-        (1..).zip(fields).find(|(_, field)| is_open(field))
+        (1..).zip(fields).find(|(_, field)| fields::is_open(field))
     }
 
     /// The first filled column that holds nothing known: its number in the file, from 1, and its content.

@@ -44,7 +44,7 @@ pub fn below_header(line: &Line, columns: &Columns) -> Option<String> {
     Some(field.problem(line))
 }
 
-/// What is wrong with a line above the header: a unit of forces that no cell has, or above a cell a unit that is not its own.
+/// What is wrong with a line above the header: a unit of forces that no cell has, or above a cell any unit that none has.
 pub fn above_header(line: &Line, columns: &Columns) -> Option<String> {
     let mut fields = Fields::of(line.text, columns.separator).enumerate();
     let of_forces = fields.find_map(|(place, field)| {
@@ -94,18 +94,14 @@ impl UnitField {
         words::cell_words(self.cell).map_or("", |words| words.unit)
     }
 
-    /// Whether the text is, or ends after a comma or in brackets with, a unit that is not the cell's.
+    /// Whether the text is, or ends after a comma or in brackets with, a unit that no cell has, above a cell that has one.
     ///
-    /// A symbol, as h in "b, h", is no unit.
+    /// A symbol, as m in "b, h, m", is no unit.
     fn ends_in_foreign_unit(&self) -> bool {
         let ending = self.text.rsplit([',', '(', '[']).next().unwrap_or("");
-        let unit = headings::words_of(ending);
         let is_symbol = matches!(headings::read(ending), Meaning::Known(_));
-        !is_symbol
-            && !self.own_unit().is_empty()
-            && units::is_any(&unit)
-            && !units::is("", &unit)
-            && !units::is(self.own_unit(), &unit)
+        let is_foreign = units::is_foreign(&headings::words_of(ending));
+        is_foreign && !is_symbol && !self.own_unit().is_empty()
     }
 
     fn problem(&self, line: &Line) -> String {

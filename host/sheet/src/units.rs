@@ -58,6 +58,11 @@ pub fn is_any(given: &[String]) -> bool {
     read(given).is_some()
 }
 
+/// Whether these words are a unit that no cell has.
+pub fn is_foreign(given: &[String]) -> bool {
+    matches!(read(given), Some(Unit::ForeignForce | Unit::Foreign))
+}
+
 /// Whether one of these words is a unit of forces that no cell has, or two are thousands of one.
 pub fn has_foreign_force(words: &[String]) -> bool {
     let thousands = words.windows(2).filter(|pair| pair[0] == "тыс");

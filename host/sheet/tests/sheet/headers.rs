@@ -202,6 +202,7 @@ fn units_above_the_header_are_held_against_the_cells() {
         ";;;;;;Section, mm;;Forces, N;;;;;",
         ";;;;;;Section b x h;;Усилия N и M;;;Effective length across h;;",
         ";;;;;;Dimensions b, h;;Forces, N / N·mm;;;Длины, мм;;",
+        ";;;;;;;;Усилия (Н, Н·мм);;;;;",
         "Шифр;2024-15;;Лист;1;Листов;5",
         "Прогоны по осям 1, 2, 3, 4, 5, 6",
         "Снеговая нагрузка 1,8 кПа, ветер 0,3 кН/м",

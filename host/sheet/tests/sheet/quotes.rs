@@ -15,7 +15,7 @@ fn quotes() {
         &ROW_A.replace("75", "\"75\""),
     ]);
     assert!(run.line("A \"left\", axis 1").contains("69.1"));
-    let reason = "column 1: the quote that begins \"B never closed,2,1,3,1… is not closed";
+    let reason = "column 1: the quote that begins \"B never closed is not closed";
     assert!(
         run.line("\"B never closed").ends_with(reason),
         "{}",
@@ -147,12 +147,12 @@ fn a_quote_that_may_swallow_members_stops_the_sheet() {
     assert_eq!(run.summary(), "2 rows: 1 passed, 1 failed, 0 refused");
 }
 
-/// What an open quote holds may be the cells of a joint: the row is refused, and what `--csv` writes of it too.
+/// An open quote may have been meant to hold the cells of a joint: the row is refused, and what `--csv` writes of it too.
 #[test]
 fn a_row_with_an_open_quote_is_refused() {
     let header = HEADER.replace(",a,d,", ",remark,a,d,");
     let joint = "75,24,3,1700,750,1200,2200,25,3100";
-    for remark in ["\"not closed", "\"ok,\"A\"", "\"ok,\"A\"\""] {
+    for remark in ["\"not closed", "\"A \"left\" right"] {
         let row = format!("T1,1,1,4,12,800,150,350,455000,,,6000,6000,4,{remark},{joint}");
         let skip = ["--skip", "remark", "--csv"];
         let run = Scratch::new(format!("{header}\n{row}\n").as_bytes()).run(&skip);
@@ -232,14 +232,15 @@ fn a_title_does_not_swallow_the_header() {
     assert!(run.line("P1 5\"").contains("FAIL"), "{}", run.out);
     for header in [
         format!("\"{exchanged}"),
-        format!("\"{exchanged}\""),
         exchanged.replace("kind", "\"kind"),
     ] {
         let run = table(format!("{header}\n{flat}\n"));
-        assert_eq!((run.code, run.out.as_str()), (2, ""), "{header}");
-        let message = "looks like a header, but has a number or a quote that is not closed";
-        assert!(run.err.contains(message), "{}", run.err);
+        assert!(run.line("P1 5\"").contains("FAIL"), "{header}: {}", run.out);
     }
+    let quoted = table(format!("\"{exchanged}\"\n{flat}\n"));
+    assert_eq!((quoted.code, quoted.out.as_str()), (2, ""));
+    let message = "looks like a header, but has a number or a quote that is not closed";
+    assert!(quoted.err.contains(message), "{}", quoted.err);
     // Programs that read what --csv wrote see a title, and no more.
     let written = csv(format!("\"Hall\n{HEADER}\n{ROW_A}\n")).out;
     assert!(
