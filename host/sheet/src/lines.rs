@@ -1,8 +1,8 @@
 //! The lines of a text, whatever ends them: line feed, carriage return or both.
 //!
 //! A quoted field may hold line breaks; its line then reaches over several. A quote that is not closed in the way of RFC 4180, or
-//! that stands where a number has to, counts as never closed: it spoils its own line. Where a quote is closed so far down that
-//! members would be lost, it cannot be told which of its quotes is the mistake, and the line says so.
+//! that stands where a number has to, is a letter like any other: it spoils its own line alone. Where a quote is closed so far
+//! down that members would be lost, it cannot be told which of the quotes is the mistake, and the line says so.
 use crate::columns::{is_number, Columns, NUMBERS_OF_A_MEMBER};
 use crate::header;
 use std::slice;
@@ -167,9 +167,10 @@ fn closing_quote(text: &[u8], inside: usize, separators: &[u8]) -> Option<usize>
     loop {
         let at = from + text[from..].iter().position(|byte| *byte == b'"')?;
         if text.get(at + 1) != Some(&b'"') {
-            let is_filling = |byte: &&u8| **byte == b' ';
+            let ends_field = |byte: &u8| is_end(byte) || separators.contains(byte);
+            let is_filling = |byte: &u8| byte.is_ascii_whitespace() && !ends_field(byte);
             let next = text[at + 1..].iter().find(|byte| !is_filling(byte));
-            let is_closed = next.map_or(true, |next| is_end(next) || separators.contains(next));
+            let is_closed = next.map_or(true, ends_field);
             return is_closed.then_some(at);
         }
         from = at + 2;
