@@ -8,14 +8,14 @@ fn say(line: &[u8]) {
     write_all(STDERR_FILENO, line);
 }
 
-pub fn input_unread() {
+pub(crate) fn input_unread() {
     say(b"schedule: standard input could not be read to its end: nothing is printed\n");
 }
 
-pub fn input_cut() {
+pub(crate) fn input_cut() {
     say(b"schedule: the input is longer than 65,536 bytes: the rest is ignored\n");
 }
 
-pub fn output_lost() {
+pub(crate) fn output_lost() {
     say(b"schedule: standard output could not be written to its end: lines are lost\n");
 }

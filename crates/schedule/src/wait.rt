@@ -3,7 +3,7 @@ use libc::types::timespec;
 
 // A millisecond, so that others run and no core is burnt. Nothing ends the waiting but the other side of the stream, which may
 // stay away for ever, as that of a blocking stream may.
-pub fn wait() {
+pub(crate) fn wait() {
     let asked = timespec {
         tv_sec: 0,
         tv_nsec: 1000000,

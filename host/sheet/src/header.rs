@@ -84,18 +84,21 @@ pub fn below(line: &[u8], columns: &Columns) -> Below {
     }
 }
 
-/// Whether every column of a member's name or cell is headed by what it holds.
-fn is_repeated(line: &[u8], columns: &Columns) -> bool {
+/// Whether every column of a member's name or cell is headed by what it holds, and no number stands beside but for answers.
+pub fn is_repeated(line: &[u8], columns: &Columns) -> bool {
     let mut fields = Fields::of(line, columns.separator);
-    columns.iter().all(|column| {
+    let is_number = |field: &[u8]| is_number(field, columns.separator);
+    let are_headed = columns.iter().all(|column| {
         let field = fields.next().unwrap_or_default();
         match column {
             Column::Holds(heading @ (Heading::Member | Heading::Cell(_))) => {
                 headings::read(&String::from_utf8_lossy(&field)) == Meaning::Known(heading)
             }
-            Column::Holds(Heading::Answer(_)) | Column::Skipped | Column::Unheaded => true,
+            Column::Holds(Heading::Answer(_)) => true,
+            Column::Skipped | Column::Unheaded => !is_number(&field),
         }
-    })
+    });
+    are_headed && !fields.any(|field| is_number(&field))
 }
 
 /// For a header below the header, or below rows.

@@ -95,13 +95,13 @@ impl Shape<'_> {
             return None;
         }
         let end = end_of_fields(text, Shape::Separated(separators));
-        header::is_certain(&text[..end.at], separators).then_some(end)
+        header::is_repeated(&text[..end.at], columns).then_some(end)
     }
 
-    /// Whether a line is a member's or a header.
-    fn is_no_text(&self, line: &[u8]) -> bool {
+    /// Whether a line, or a part of one that begins at this place, is a member's or a header.
+    fn is_member_or_header(&self, place: usize, line: &[u8]) -> bool {
         let numbers = match self {
-            Shape::In(columns) => columns.numbers_from(0, line),
+            Shape::In(columns) => columns.numbers_from(place, line),
             Shape::Separated(separators) => {
                 let counts = separators.iter().map(|separator| {
                     let fields = line.split(|byte| byte == separator);
@@ -161,7 +161,7 @@ fn end_of_fields(text: &[u8], shape: Shape) -> End {
     }
 }
 
-/// Where the next quote stands that is not doubled, if it closes a field: a separator or a line end follows (RFC 4180).
+/// Where the next quote stands that is not doubled, if it closes a field: a separator or a line end follows, after blanks at most.
 fn closing_quote(text: &[u8], inside: usize, separators: &[u8]) -> Option<usize> {
     let mut from = inside;
     loop {
@@ -179,11 +179,13 @@ fn closing_quote(text: &[u8], inside: usize, separators: &[u8]) -> Option<usize>
 
 /// Whether a member, or a header, would be lost if what stands between two quotes of different lines were one field.
 fn loses_a_member(text: &[u8], inside: usize, close: usize, place: usize, shape: Shape) -> bool {
-    let mut swallowed = text[inside..close].split(is_end);
+    // The first part goes on in the line of the quote, the others begin lines.
+    let places = [place].into_iter().chain(std::iter::repeat(0));
+    let mut swallowed = places.zip(text[inside..close].split(is_end));
     let start = text[..close].iter().rposition(is_end);
     let last_line = start.map_or(0, |at| at + 1);
     let end = end_of_line(text, close);
-    swallowed.any(|line| shape.is_no_text(line))
+    swallowed.any(|(place, part)| shape.is_member_or_header(place, part))
         || shape.is_member_apart(place, &text[last_line..end], &text[close + 1..end])
 }
 

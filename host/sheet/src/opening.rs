@@ -182,16 +182,16 @@ fn without_header<'a>(
     separators: &[u8],
     options: &ColumnOptions,
 ) -> Result<Opening<'a>, String> {
+    let blank = lines.iter().take_while(|ahead| ahead.is_blank()).count();
+    let (above, rows) = lines.split_at(blank);
+    if !options.by_position {
+        refuse_spoilt_header(rows, separators)?;
+    }
     if let Some(heading) = options.skip.first() {
         return Err(format!(
             "--skip \"{}\": there is no header, so no column is headed so",
             shown(heading, QUOTED)
         ));
-    }
-    let blank = lines.iter().take_while(|ahead| ahead.is_blank()).count();
-    let (above, rows) = lines.split_at(blank);
-    if !options.by_position {
-        refuse_spoilt_header(rows, separators)?;
     }
     let first = rows.first();
     let text = first.map_or(&b""[..], |ahead| ahead.line.text);

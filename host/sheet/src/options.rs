@@ -179,7 +179,7 @@ usage: sheet [--csv | --pack] [-o FILE] [--skip HEADING]... [--by-position] FILE
                   is done, and until then the old one stands as it is; with --csv
                   it may be the sheet itself
   --skip HEADING  passes over a column of your own: remarks, drawing
-  --by-position   takes the cells in their order, whatever the headings say
+  --by-position   takes the cells in their order, whatever headings and units say
   --              ends the options: what follows is a file
   --help          this text
 
@@ -196,7 +196,8 @@ note. Each heading says what its column holds, in any order; a cell without a
 column is blank. A row with anything in a column without a heading is refused.
 What is not clear stops the sheet, and nothing is written: a heading that is not
 known, or is there twice; units other than the cells', in the header or in a line
-above or below it; a second header; a line above the header that may be a member;
+above or below it; a second header, of other columns; a line above the header that
+may be a member;
 a quote that may have been closed lines below, with members between.
 
 Without a header, or with --by-position, the order decides: the members' names,

@@ -88,9 +88,12 @@ impl<'a> SheetRow<'a> {
         }
     }
 
-    /// Whether text stands where a number has to, a quote is open, or all is one field: the line may be no row.
+    /// Whether text stands where a number has to, a quote is open, or no cell is filled: the line may be no row.
     pub fn may_be_no_row(&self) -> bool {
-        self.cells.contains(&Typed::Text) || self.open_quote().is_some() || self.fields.len() == 1
+        let is_blank = |cell: &Typed| *cell == Typed::Blank;
+        self.cells.contains(&Typed::Text)
+            || self.open_quote().is_some()
+            || self.cells.iter().all(is_blank)
     }
 
     /// The first column with an open quote: its number in the file, from 1, and its content.

@@ -11,9 +11,9 @@ use crate::{units, words};
 const QUOTED: usize = 40;
 
 /// So many units in a line are no chance, not even beside numbers.
-const CERTAIN: usize = 2;
+const UNITS_OF_A_LINE: usize = 2;
 
-/// The cells of width and height: in a line that has numbers there, units stand in the place of numbers.
+/// The cells of width and height: a line with numbers there is a row, and a unit in it stands in the place of a number.
 const SECTION: [usize; 2] = [6, 7];
 
 /// What is wrong with a line of units below the header, if it is one.
@@ -30,35 +30,35 @@ pub fn below_header(line: &Line, columns: &Columns) -> Option<String> {
         .filter(|field| units::is_any(&field.words) && !units::is("", &field.words))
         .collect();
     let is_without_numbers = !has_number(line.text, columns.separator);
-    if is_without_numbers || units.len() >= CERTAIN {
+    if is_without_numbers || units.len() >= UNITS_OF_A_LINE {
         let foreign = |field: &&UnitField| !units::is(field.own_unit(), &field.words);
         if let Some(field) = units.into_iter().find(foreign) {
             return Some(field.problem(line));
         }
     }
-    let has_force = |field: &&UnitField| units::has_foreign_force(&field.words);
-    let field = fields
-        .iter()
-        .find(has_force)
-        .filter(|_| is_without_numbers)?;
-    Some(field.problem(line))
+    let is_without_cells = columns.numbers_from(0, line.text) == 0;
+    foreign_force_in(line, columns).filter(|_| is_without_cells)
 }
 
 /// What is wrong with a line above the header: a unit of forces that no cell has, or above a cell any unit that none has.
 pub fn above_header(line: &Line, columns: &Columns) -> Option<String> {
-    let mut fields = Fields::of(line.text, columns.separator).enumerate();
-    let of_forces = fields.find_map(|(place, field)| {
-        let text = String::from_utf8_lossy(&field);
-        let has_force = units::has_foreign_force(&headings::words_of(&text));
-        let problem = "forces have to be in N, moments in N·mm";
-        has_force.then(|| in_column(line, place, &text, problem))
-    });
     let of_cells = || {
         let fields = fields_of_cells(line, columns);
         let foreign = fields.iter().find(|field| field.ends_in_foreign_unit());
         foreign.map(|field| field.problem(line))
     };
-    of_forces.or_else(of_cells)
+    foreign_force_in(line, columns).or_else(of_cells)
+}
+
+/// A field of any column that speaks of a unit of forces that no cell has.
+fn foreign_force_in(line: &Line, columns: &Columns) -> Option<String> {
+    let mut fields = Fields::of(line.text, columns.separator).enumerate();
+    fields.find_map(|(place, field)| {
+        let text = String::from_utf8_lossy(&field);
+        let has_force = units::has_foreign_force(&headings::words_of(&text));
+        let problem = "forces have to be in N, moments in N·mm";
+        has_force.then(|| in_column(line, place, &text, problem))
+    })
 }
 
 /// A field in the column of a cell.

@@ -21,38 +21,19 @@ fn stopped(content: &str, options: &[&str]) -> String {
 
 #[test]
 fn exchanged_columns_give_the_verdict_of_their_headings() {
-    let beam = |header: &str| {
-        table(format!(
-            "{header}\nA,2,1,3,10,1000,300,75,,20000000,20000\n"
-        ))
-    };
-    let as_typed = beam(HEADER);
-    assert!(
-        as_typed.line("A ").contains("300 × 75  "),
-        "{}",
-        as_typed.out
-    );
-    assert!(
-        as_typed.line("A ").contains("FAIL       276.3 "),
-        "{}",
-        as_typed.out
-    );
-    let exchanged = beam(&HEADER.replace("b,h", "h,b"));
-    assert!(
-        exchanged.line("A ").contains("75 × 300 "),
-        "{}",
-        exchanged.out
-    );
-    assert!(
-        exchanged.line("A ").contains("pass        69.1 "),
-        "{}",
-        exchanged.out
-    );
-    let in_order = by_position(format!(
-        "{}\nA,2,1,3,10,1000,300,75,,20000000,20000\n",
-        HEADER.replace("b,h", "h,b")
-    ));
-    assert_eq!(in_order.out, as_typed.out);
+    let exchanged = HEADER.replace("b,h", "h,b");
+    let beam = |header: &str| format!("{header}\nA,2,1,3,10,1000,300,75,,20000000,20000\n");
+    for (header, parts) in [
+        (HEADER, ["300 × 75  ", "FAIL       276.3 "]),
+        (&exchanged, ["75 × 300 ", "pass        69.1 "]),
+    ] {
+        let run = table(beam(header));
+        for part in parts {
+            assert!(run.line("A ").contains(part), "{part} in {}", run.out);
+        }
+    }
+    let in_order = by_position(beam(&exchanged));
+    assert_eq!(in_order.out, table(beam(HEADER)).out);
     assert_eq!(
         in_order.err,
         "sheet: note: column 7, \"h\": taken for width b, as the order has it\n"
@@ -154,7 +135,6 @@ fn a_line_of_units_below_the_header_is_held_against_the_cells() {
     }
     for rubbish in [
         ",,,,%,‰,мм,мм,Н·мм,Н",
-        "kN,x,,,,,,,,",
         "B,–,-,,–,–,–,–,–,–",
         "A,2,1,3,10,1000,75,300,kN,20000",
     ] {
@@ -203,6 +183,8 @@ fn units_above_the_header_are_held_against_the_cells() {
         ";;;;;;Section b x h;;Усилия N и M;;;Effective length across h;;",
         ";;;;;;Dimensions b, h;;Forces, N / N·mm;;;Длины, мм;;",
         ";;;;;;;;Усилия (Н, Н·мм);;;;;",
+        ";;;;;;;;Forces N, M;;;;;",
+        ";Hall (cm);;",
         "Шифр;2024-15;;Лист;1;Листов;5",
         "Прогоны по осям 1, 2, 3, 4, 5, 6",
         "Снеговая нагрузка 1,8 кПа, ветер 0,3 кН/м",
@@ -225,10 +207,11 @@ fn units_beside_numbers_and_further_down_are_held_against_the_cells() {
         ",,,,,,mm,mm,\"max, kN\",\"max, kN·m\"",
         ",,,,,,mm,mm,тыс. Н",
         ",,,,,,,,kip",
+        "forces in kN",
     ] {
         let message = stopped(&sheet(units), &[]);
         assert!(message.contains("line 4, column "), "{message}");
-        assert!(message.contains(" has to be in "), "{message}");
+        assert!(message.contains(" to be in "), "{message}");
     }
     for row in [
         "x,2,1,3,10,1000,75,300,kN,20000000,20000",
@@ -262,6 +245,17 @@ fn a_header_with_a_number_in_it_stops_the_sheet() {
     // The same further down.
     let further_down = format!("{HEADER}\n{ROW_A}\n2,kind,grade,h,b\n{ROW_A}\n");
     assert!(stopped(&further_down, &[]).contains("line 3 is another header"));
+    let quoted = format!(
+        "{HEADER}\n{ROW_A}\n\"{}\"\n{ROW_A}\n",
+        HEADER.replace("b,h", "h,b")
+    );
+    assert!(stopped(&quoted, &[]).contains("line 3 is another header"));
+    // A member behind a quote of the same header again.
+    let open = format!(
+        "{HEADER},remark\n{ROW_A}\n{HEADER},\"remark\nB 5\",{}\n",
+        &ROW_A[2..]
+    );
+    assert!(stopped(&open, &["--skip", "remark"]).contains("line 3: a quote is open"));
 }
 
 #[test]
@@ -282,6 +276,13 @@ fn names_with_two_meanings_name_nothing() {
         ]
     );
     assert_eq!(small.err.lines().count(), 3);
+}
+
+#[test]
+fn a_heading_may_be_long() {
+    let sheet = "расчётная длина поперёк h;расчётная длина поперёк b\n3000;2000\n";
+    assert!(table(sheet).line("line 2 ").ends_with("cell 1 kind: blank"));
+    assert_eq!(table(sheet).err, "");
 }
 
 #[test]

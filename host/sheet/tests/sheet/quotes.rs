@@ -139,6 +139,11 @@ fn a_quote_that_may_swallow_members_stops_the_sheet() {
         let message = "line 2: a quote is open that line 3 may close, and members would be lost";
         assert!(run.err.contains(message), "{}", run.err);
     }
+    // Behind columns that hold no cells.
+    let sheet = ",,,,,member,kind,grade,regime,moisture,factor,b,h,M,Q\n\
+        ,,,,,\"B3,2,1,4,12,1000,75,300,99000000,15800\n,,,,,B4 5\",2,1,4,12,1000,75,300,1000000,100\n";
+    let message = "line 2: a quote is open that line 3 may close, and members would be lost";
+    assert!(table(sheet).err.contains(message), "{}", table(sheet).out);
     // A remark that is closed, with figures of the office's own in it and after it.
     let run = with_own_columns(&[
         &format!("P1,{passes},\"axes 1, 2, 3,\nrev. 2\",5,6"),
@@ -184,8 +189,19 @@ fn a_number_with_a_stray_quote_is_refused() {
         assert!(run.line("A ").contains("69.1"), "{m}: {}", run.out);
         assert!(run.summary().contains(" 1 passed, 0 failed, "), "{m}");
     }
-    let spaced = table_of(&[&ROW_A.replace(",75,", ",\"75\" ,")]);
-    assert!(spaced.line("A ").contains("69.1"));
+    for (typed, in_its_place) in [
+        (",75,", ",\"75\" ,"),
+        ("A,", "\"A\nleft\" ,"),
+        ("A,", "\"A\" left,"),
+    ] {
+        let run = table_of(&[&ROW_A.replacen(typed, in_its_place, 1)]);
+        assert_eq!(
+            run.summary(),
+            "1 row: 1 passed, 0 failed, 0 refused",
+            "{}",
+            run.out
+        );
+    }
 }
 
 /// As each line was typed, so many rows.
