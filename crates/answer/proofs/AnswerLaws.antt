@@ -12,6 +12,7 @@ use borrow.Rule.Slice.PartMut.{putMid, postOf}
 use Rattle.cells.specs.HostBytes.{wordBytes, floatBytes, wholeFloat}
 use Rattle.cells.proofs.FloatLaws.{whole-not-nan}
 use Rattle.worksheet.specs.HostAnswer.{floatsBytes, NoNans}
+use Rattle.worksheet.proofs.FloatsMeaning.{no-nans-end, no-nans-then}
 
 pub word-bytes-length : (n w : ℕ) → length (wordBytes n w) ≡ n
 unfolding wordBytes
@@ -50,7 +51,7 @@ floats-step l ys xs i k h whole before e =
 -- an answer made of numbers of 32 bits has no NaN
 pub answer-numbers : (utilisation count check : ℕ) → utilisation < 2 ^ 32 → count < 2 ^ 32 → check < 2 ^ 32
     → NoNans (wholeFloat utilisation ∷ wholeFloat count ∷ wholeFloat check ∷ [])
-answer-numbers u c k p q r zero h = whole-not-nan u (omega arith)
-answer-numbers u c k p q r (suc zero) h = whole-not-nan c (omega arith)
-answer-numbers u c k p q r (suc (suc zero)) h = whole-not-nan k (omega arith)
-answer-numbers u c k p q r (suc (suc (suc i))) h = absurd (omega arith)
+answer-numbers u c k p q r =
+    no-nans-then (wholeFloat u) (wholeFloat c ∷ wholeFloat k ∷ []) (whole-not-nan u (omega arith))
+    (no-nans-then (wholeFloat c) (wholeFloat k ∷ []) (whole-not-nan c (omega arith))
+    (no-nans-then (wholeFloat k) [] (whole-not-nan k (omega arith)) no-nans-end))

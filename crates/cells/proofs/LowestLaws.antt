@@ -8,7 +8,7 @@ use native.Mathlib.Numerals.{add-one}
 use native.Mathlib.Omega.{arith}
 use mathlib.Core.Bool.{Bool, true, false, cond}
 use mathlib.Core.List.{List, [], _∷_}
-use lib.ListN.{length, getD, drop, drop-of-length-le}
+use lib.ListN.{length, getD, drop, replicate, drop-of-length-le}
 use lib.Seq.{drop-cons}
 use Rattle.cells.specs.Lowest.{lowest}
 
@@ -98,3 +98,14 @@ module _ {A : Type 0} (fails : ℕ → A → Bool) where
   unfolding lowest
   lowest-of-passing pass n [] = refl
   lowest-of-passing pass n (x ∷ l) = rw (pass n x) (lowest-of-passing pass (n + 1) l)
+
+  -- a search from the front, an element at a time
+  pub lowest-cons : (n : ℕ) (x : A) (l : List A) → lowest fails n (x ∷ l) ≡ cond (fails n x) n (lowest fails (n + 1) l)
+  unfolding lowest
+  lowest-cons n x l = refl
+
+  -- among copies of an element that passes from a number on, none is found
+  pub lowest-of-copies : (count n : ℕ) (x : A) → ((m : ℕ) → n ≤ m → fails m x ≡ false) → lowest fails n (replicate count x) ≡ 0
+  unfolding lowest
+  lowest-of-copies zero n x pass = refl
+  lowest-of-copies (suc count) n x pass = rw (pass n (omega arith)) (lowest-of-copies count (n + 1) x (λ m h. pass m (omega arith)))

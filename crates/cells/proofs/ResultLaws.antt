@@ -1,9 +1,10 @@
 -- The result that an outcome stands for, by its cases; and what a refusal does to what comes after it.
 -- Assumes nothing.
 use Prim.Native.Nat.{ℕ}
+use native.Mathlib.Omega.{arith}
 use mathlib.Core.List.{List}
 use mathlib.Core.Path.{_≡_, refl, ap}
-use Rattle.cells.specs.Refusal.{Result, gives, refusedBy, refusalCode, resultOf, andThen, leaves, told}
+use Rattle.cells.specs.Refusal.{Result, gives, refuses, refusedBy, refusalCode, resultOf, andThen, leaves, told}
 use Rattle.cells.specs.declared.refusal.Outcome.{Outcome}
 use Rattle.cells.specs.declared.refusal.Outcome.the-variants.{Done, Refused}
 use Rattle.cells.specs.declared.refusal.Refusal.{Refusal}
@@ -25,3 +26,8 @@ refusal-leaves refusal after before = refl
 
 pub refusal-told : {A : Type 0} (refusal : Refusal) (value-number : A → ℕ) → told value-number (refusedBy refusal) ≡ refusalCode refusal
 refusal-told refusal value-number = refl
+
+-- where operations that follow one another give a value, each gave one
+pub then-given : {A B : Type 0} (result : Result A) (next : A → Result B) (value : B) → andThen result next ≡ gives value → (before : A) × (result ≡ gives before) × (next before ≡ gives value)
+then-given (gives before) next value e = (before, refl, e)
+then-given (refuses number cell) next value e = absurd (let z : _≡_ {A = ℕ} 0 1 = cc in omega arith)

@@ -203,6 +203,26 @@ module _ (kind : Kind) (cells : List Cell) {begun : Bool} (is : begun ≡ isBegu
   unfolding acceptKind
   none-refused ok = rw (← is, ok .fill, ok .code, ok .range)
 
+-- what a row of a known kind gives, where it is not refused, is the member of its cells
+given-unless : (m : Member) {P : Type 0} (number cell : ℕ) (rest : Result Member) → (rest ≡ gives m → P) → unlessRefused number cell rest ≡ gives m → P
+given-unless m {P} number cell rest then = by (eqb cell 0)
+  where
+    by : (t : Bool) → cond t rest (refuses number cell) ≡ gives m → P
+    by true e = then e
+    by false e = absurd (let z : _≡_ {A = ℕ} 0 1 = cc in omega arith)
+
+pub accepted-member : (kind : Kind) (cells : List Cell) (m : Member) → acceptKind kind cells ≡ gives m → m ≡ memberOf kind (isBegun kind cells) (valuesOf cells)
+unfolding acceptKind
+accepted-member kind cells m =
+    given-unless m 2 (lowestCell (misfilled kind (isBegun kind cells)) cells) _
+    (given-unless m 3 (lowestCell (unknownCode kind) cells) _ (given-unless m 4 (lowestCell outOfRange cells) _ given))
+  where
+    here : Member
+    here = memberOf kind (isBegun kind cells) (valuesOf cells)
+
+    given : gives here ≡ gives m → m ≡ here
+    given e = cc
+
 -- what a result of acceptance promises: a member that keeps its ranges
 abbrev RangesKept : Result Member → Type 0
 RangesKept (gives m) = RangesOf (m .kind) m

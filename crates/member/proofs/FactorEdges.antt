@@ -25,7 +25,7 @@ use Rattle.member.proofs.DemandLaws.{strength-high}
 use Rattle.member.proofs.DemandRefutes.{says}
 
 -- a comparison of numbers that fails
-past-it : (a b : ℕ) → leb a b ≡ false → a ≤ b → ⊥
+pub past-it : (a b : ℕ) → leb a b ≡ false → a ≤ b → ⊥
 past-it a b e le = true≢false (sym (le-leb a b le) ∙ e)
 
 -- Check 4, and the count.

@@ -18,9 +18,10 @@ ghost use Rattle.cells.specs.Refusal.{resultOf, valueOr};
 ghost use Rattle.cells.specs.Row.{cellCount, cellsOf, blanks};
 ghost use Rattle.cells.specs.HostBytes.{halfWordAt, wordAt};
 ghost use Rattle.worksheet.specs.HostRow.{hostCellBytes, hostCellAt, readHostRow};
+ghost use Rattle.worksheet.specs.Reading.{readCell};
 
 // The bytes of a host's cell: one that says whether it is filled, and eight of the float.
-const CELL_BYTES: usize = 9;
+pub const CELL_BYTES: usize = 9;
 
 // The four bytes from a place on as a number, lowest first.
 fn half_word_at(bytes: &[u8], at: usize) -> u64
@@ -66,6 +67,14 @@ fn host_cell_at(bytes: &[u8], at: usize) -> HostCell
     HostCell::Number(0.0 / 0.0)
 }
 
+// The reading of the host's cell whose bytes start at a place.
+pub fn read_host_cell(bytes: &[u8], at: usize) -> Reading
+    requires { ⌜ at + hostCellBytes ≤ length (now bytes) ⌝ }
+    ensures { λ r. ⌜ r ≡ readCell (hostCellAt (now (bytes .entry)) at) ⌝ }
+{
+    read_cell(host_cell_at(bytes, at))
+}
+
 // The host's row, read to whole numbers: each cell where it stands, with no copy of the cells in between.
 pub fn read_host_row(bytes: &[u8]) -> ReadRow
     ensures result { λ r. ⌜ resultOf (r .outcome) (cellsOf (r .row)) ≡ readHostRow (now (bytes .entry)) ⌝ }
@@ -77,7 +86,7 @@ pub fn read_host_row(bytes: &[u8]) -> ReadRow
     let mut row = blank_row();
     let mut i: usize = 0;
     while i < CELLS {
-        let reading = read_cell(host_cell_at(bytes, CELL_BYTES * i));
+        let reading = read_host_cell(bytes, CELL_BYTES * i);
         match reading {
             Reading::Unreadable => {
                 return refused(Refusal::Unreadable((i + 1) as u32));

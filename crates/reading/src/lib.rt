@@ -2,3 +2,4 @@
 pub mod host_cells;
 pub mod host_row;
 pub mod number;
+pub mod own_cell;

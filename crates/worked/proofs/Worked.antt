@@ -14,11 +14,11 @@ use Rattle.worked.specs.Table.{table}
 
 infixr 40 _and_
 -- a case and those after it
-abbrev _and_ : {A B : Type 0} → A → B → A × B
+abbrev pub _and_ : {A B : Type 0} → A → B → A × B
 a and b = (a, b)
 
 -- two fractions whose denominators and products are numerals
-same : {x y : Fraction} → T (ltb 0 (x .den)) → T (ltb 0 (y .den)) → x .num * y .den ≡ y .num * x .den → SameValue x y
+pub same : {x y : Fraction} → T (ltb 0 (x .den)) → T (ltb 0 (y .den)) → x .num * y .den ≡ y .num * x .den → SameValue x y
 same real written cross = record { real = lit< real; written = lit< written; cross = cross }
 
 -- every case of the table, by computing; row H by the law of packing

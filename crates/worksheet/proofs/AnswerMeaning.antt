@@ -3,28 +3,25 @@
 use mathlib.Core.Bool.{false}
 use mathlib.Core.Path.{_≡_, refl, sym, ap, _∙_}
 use mathlib.Core.List.{List, [], _∷_, _++_, append-nil, append-assoc}
-use Prim.Native.Nat.{ℕ, _^_, _<_}
+use Prim.Native.Nat.{ℕ}
 use native.Mathlib.Omega.{arith}
-use lib.IntN.{pos}
-use lib.Ieee.{binary64, ofBits, toBits}
+use lib.Dec.{lit<}
 use lib.Ieee.Exact.{HasValue}
-use lib.Ieee.Bits.{ofBits-toBits, toBits-lt}
-use lib.Ieee.Fits.{ofInt-fits}
-use Rattle.cells.specs.HostBytes.{wordBytes, wordAt, floatBytes, floatAt, wholeFloat}
+use Rattle.cells.specs.HostBytes.{floatBytes, floatAt, wholeFloat}
 use Rattle.cells.proofs.FloatLaws.{whole-exact}
 use Rattle.member.specs.declared.verdict.Verdict.{Verdict}
 use Rattle.member.proofs.VerdictRange.{VerdictRange}
 use Rattle.worksheet.specs.Entries.{verdictBytes}
 use Rattle.worksheet.specs.HostAnswer.{floatsBytes, floatsResult, hostAnswer, answerBytes, answerRoomResult}
 use Rattle.worksheet.specs.declared.answer.HostAnswer.{HostAnswer}
+use Rattle.worksheet.proofs.FloatsMeaning.{float-in-place}
 
--- three numbers of 64 bits, one after the other, from their bytes
-words-back : (x y z : ℕ) → x < 2 ^ 64 → y < 2 ^ 64 → z < 2 ^ 64
-    → (wordAt (wordBytes 8 x ++ wordBytes 8 y ++ wordBytes 8 z) 0 ≡ x)
-    × (wordAt (wordBytes 8 x ++ wordBytes 8 y ++ wordBytes 8 z) 8 ≡ y)
-    × (wordAt (wordBytes 8 x ++ wordBytes 8 y ++ wordBytes 8 z) 16 ≡ z)
-unfolding wordBytes
-words-back x y z p q r = (omega arith, omega arith, omega arith)
+-- The answer is three floats, as any number of floats is written.
+pub answer-is-floats : (answer : HostAnswer) → floatsBytes (answer .utilisation ∷ answer .count ∷ answer .check ∷ []) ≡ answerBytes answer
+unfolding floatsBytes
+answer-is-floats answer =
+    ap (λ (bytes : List ℕ). floatBytes (answer .utilisation) ++ (floatBytes (answer .count) ++ bytes)) (append-nil (floatBytes (answer .check)))
+    ∙ sym (append-assoc (floatBytes (answer .utilisation)) (floatBytes (answer .count)) (floatBytes (answer .check)))
 
 -- The answer's 24 bytes, as the host reads them: the floats at 0, 8 and 16.
 pub answer-floats : (utilisation count check : ℕ)
@@ -32,14 +29,9 @@ pub answer-floats : (utilisation count check : ℕ)
     × (floatAt (answerBytes (hostAnswer utilisation count check)) 8 ≡ wholeFloat count)
     × (floatAt (answerBytes (hostAnswer utilisation count check)) 16 ≡ wholeFloat check)
 answer-floats utilisation count check =
-    let w = words-back _ _ _ (bits-lt utilisation) (bits-lt count) (bits-lt check) in
-    (back _ utilisation (w .0), back _ count (w .1), back _ check (w .2))
-  where
-    bits-lt : (n : ℕ) → toBits binary64 (wholeFloat n) < 2 ^ 64
-    bits-lt n = toBits-lt binary64 (wholeFloat n) (ofInt-fits binary64 (pos n))
-
-    back : (w n : ℕ) → w ≡ toBits binary64 (wholeFloat n) → ofBits binary64 w ≡ wholeFloat n
-    back w n e = ap (ofBits binary64) e ∙ ofBits-toBits binary64 (wholeFloat n) (ofInt-fits binary64 (pos n))
+    let numbers = utilisation ∷ count ∷ check ∷ [] in
+    rw (← answer-is-floats (hostAnswer utilisation count check))
+    (float-in-place numbers 0 (lit< tt), float-in-place numbers 1 (lit< tt), float-in-place numbers 2 (lit< tt))
 
 -- bytes that hold a verdict: the floats at 0, 8 and 16 have exactly the values of its utilisation, its count and its check number
 pub record HoldsVerdict (bytes : List ℕ) (v : Verdict) : Type 0 where
@@ -56,13 +48,6 @@ verdict-held v range =
       count = rw (floats .1) (whole-exact (v .count) (omega (arith, range .count)));
       check = rw (floats .2) (whole-exact (v .check) (omega (arith, range .check)));
     }
-
--- The answer is three floats, as any number of floats is written.
-pub answer-is-floats : (answer : HostAnswer) → floatsBytes (answer .utilisation ∷ answer .count ∷ answer .check ∷ []) ≡ answerBytes answer
-unfolding floatsBytes
-answer-is-floats answer =
-    ap (λ (bytes : List ℕ). floatBytes (answer .utilisation) ++ (floatBytes (answer .count) ++ bytes)) (append-nil (floatBytes (answer .check)))
-    ∙ sym (append-assoc (floatBytes (answer .utilisation)) (floatBytes (answer .count)) (floatBytes (answer .check)))
 
 pub answer-has-three : (room : ℕ) → floatsResult 3 room ≡ answerRoomResult room
 answer-has-three room = refl

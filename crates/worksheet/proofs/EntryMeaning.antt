@@ -37,21 +37,21 @@ use Rattle.worksheet.proofs.RefusalNumbers.{Numbered, reading-numbered,
 
 -- ---- refusals
 
--- what a number from 1000 tells: the refusal, whose number and cell it gives back
-pub record WasRefused {A : Type 0} (result : Result A) (returned : ℕ) : Type 0 where
+-- what a number from 1000 tells: the refusal, from 1 to the entry's greatest, whose number and cell it gives back
+pub record WasRefused {A : Type 0} (greatest : ℕ) (result : Result A) (returned : ℕ) : Type 0 where
   pub number : ℕ
   pub cell : ℕ
   pub refused : result ≡ refuses number cell
-  pub numbered : In 1 5 number
+  pub numbered : In 1 greatest number
   pub in-row : cell ≤ 22
   pub number-told : returned / 1000 ≡ number
   pub cell-told : returned % 1000 ≡ cell
 
 -- it is a refusal's, where a value's number is below 1000
-from-1000 : {A : Type 0} (value-number : A → ℕ) (result : Result A) → ((value : A) → result ≡ gives value → value-number value < 1000)
-    → Numbered 1 5 result → 1000 ≤ told value-number result → WasRefused result (told value-number result)
-from-1000 value-number (gives value) few numbered above = absurd (omega (arith, few value refl, above))
-from-1000 value-number (refuses number cell) few numbered above =
+pub from-1000 : {A : Type 0} (greatest : ℕ) (value-number : A → ℕ) (result : Result A) → ((value : A) → result ≡ gives value → value-number value < 1000)
+    → Numbered 1 greatest result → 1000 ≤ told value-number result → WasRefused greatest result (told value-number result)
+from-1000 greatest value-number (gives value) few numbered above = absurd (omega (arith, few value refl, above))
+from-1000 greatest value-number (refuses number cell) few numbered above =
     record {
       number = number;
       cell = cell;
@@ -61,6 +61,12 @@ from-1000 value-number (refuses number cell) few numbered above =
       number-told = omega (arith, numbered .1);
       cell-told = omega (arith, numbered .1);
     }
+
+-- and the lent bytes are untouched
+pub untouched : {A : Type 0} (value-number : A → ℕ) (after : A → List ℕ) (before : List ℕ) (result : Result A) → ((value : A) → value-number value < 1000)
+    → 1000 ≤ told value-number result → leaves result after before ≡ before
+untouched value-number after before (gives value) few above = absurd (omega (arith, few value, above))
+untouched value-number after before (refuses number cell) few above = refl
 
 -- ---- checking
 
@@ -110,14 +116,22 @@ was-judged row answer below = by-read (readHostRow row) refl below
 pub length-last : (row : List ℕ) (room number cell : ℕ) → andThen (readHostRow row) checkRow ≡ refuses number cell → hostCheck row room ≡ refuses number cell
 length-last row room number cell e = rw e
 
-passed : (v : Verdict) → passOrFail v ≡ 0 → v .passes ≡ true
+-- a verdict's number is below 1000, and tells whether it is a pass
+pub verdict-few : (v : Verdict) → passOrFail v < 1000
+verdict-few v = by (v .passes)
+  where
+    by : (t : Bool) → cond t 0 1 < 1000
+    by true = omega arith
+    by false = omega arith
+
+pub passed : (v : Verdict) → passOrFail v ≡ 0 → v .passes ≡ true
 passed v e = by (v .passes) e
   where
     by : (t : Bool) → _≡_ {A = ℕ} (cond t 0 1) 0 → t ≡ true
     by true z = refl
     by false z = absurd (omega (arith, z))
 
-not-passed : (v : Verdict) → passOrFail v ≡ 1 → v .passes ≡ false
+pub not-passed : (v : Verdict) → passOrFail v ≡ 1 → v .passes ≡ false
 not-passed v e = by (v .passes) e
   where
     by : (t : Bool) → _≡_ {A = ℕ} (cond t 0 1) 1 → t ≡ false
@@ -151,24 +165,12 @@ one-means row answer z =
     )
 
 -- a number from 1000 is a refusal's
-pub was-refused : (row : List ℕ) (room : ℕ) → 1000 ≤ checkReturns row room → WasRefused (hostCheck row room) (checkReturns row room)
-was-refused row room above = from-1000 passOrFail (hostCheck row room) (λ v given. few (v .passes)) (check-numbered row room) above
-  where
-    few : (t : Bool) → cond t 0 1 < 1000
-    few true = omega arith
-    few false = omega arith
+pub was-refused : (row : List ℕ) (room : ℕ) → 1000 ≤ checkReturns row room → WasRefused 5 (hostCheck row room) (checkReturns row room)
+was-refused row room above = from-1000 5 passOrFail (hostCheck row room) (λ v given. verdict-few v) (check-numbered row room) above
 
 -- a number from 1000: the answer is untouched
 pub check-untouched : (row answer : List ℕ) → 1000 ≤ checkReturns row (length answer) → checkLeaves row answer ≡ answer
-check-untouched row answer = by (hostCheck row (length answer))
-  where
-    by-verdict : (v : Verdict) (t : Bool) → 1000 ≤ cond t 0 1 → verdictBytes v ≡ answer
-    by-verdict v true z = absurd (omega (arith, z))
-    by-verdict v false z = absurd (omega (arith, z))
-
-    by : (r : Result Verdict) → 1000 ≤ told passOrFail r → leaves r verdictBytes answer ≡ answer
-    by (gives v) z = by-verdict v (v .passes) z
-    by (refuses number cell) z = refl
+check-untouched row answer = untouched passOrFail verdictBytes answer (hostCheck row (length answer)) verdict-few
 
 -- ---- packing
 
@@ -228,8 +230,8 @@ was-packed row buffer below = by (readHostRow row) refl
         absurd (omega (arith, below, code, one .0 .low))
 
 -- a number from 1000 is a refusal's
-pub pack-was-refused : (row : List ℕ) (room : ℕ) → 1000 ≤ packReturns row room → WasRefused (hostPack row room) (packReturns row room)
-pack-was-refused row room above = from-1000 (λ (count : ℕ). count) (hostPack row room) few (pack-numbered row room) above
+pub pack-was-refused : (row : List ℕ) (room : ℕ) → 1000 ≤ packReturns row room → WasRefused 5 (hostPack row room) (packReturns row room)
+pack-was-refused row room above = from-1000 5 (λ (count : ℕ). count) (hostPack row room) few (pack-numbered row room) above
   where
     few : (count : ℕ) → hostPack row room ≡ gives count → count < 1000
     few count e = by (readHostRow row) refl

@@ -2,7 +2,9 @@ pub mod NumberLaws
 pub mod ReadingLaws
 pub mod HostRowLaws
 pub mod ReadingMeaning
+pub mod OwnCellMeaning
 pub mod ReadRows
+pub mod FloatsMeaning
 pub mod AnswerMeaning
 pub mod RefusalNumbers
 pub mod HostDemand

@@ -2,7 +2,7 @@
 -- Assumes nothing.
 use Prim.Native.Nat.{ℕ, _*_, _<_}
 use mathlib.Core.Bool.{cond, not}
-use mathlib.Core.List.{List, [], _∷_, _++_}
+use mathlib.Core.List.{List, [], _∷_, _++_, map}
 use lib.Dec.{T, eqb}
 use lib.ListN.{length, getD}
 use lib.Ieee.{Float, nan, isNan}
@@ -22,6 +22,10 @@ floatsResult count room = cond (eqb room (8 * count)) (gives tt) (refuses 5 0)
 -- the lent bytes after floats; untouched by a refusal
 abbrev pub floatsBuffer : List Float → List ℕ → List ℕ
 floatsBuffer floats buffer = whereGiven (floatsResult (length floats) (length buffer)) (floatsBytes floats) buffer
+
+-- whole numbers as floats
+abbrev pub wholeFloats : List ℕ → List Float
+wholeFloats numbers = map wholeFloat numbers
 
 -- none of them is a NaN, whose bits the language does not define
 abbrev pub NoNans : List Float → Type 0

@@ -1,5 +1,6 @@
 pub mod Number
 pub mod Reading
 pub mod HostRow
+pub mod OwnCell
 pub mod HostAnswer
 pub mod Entries

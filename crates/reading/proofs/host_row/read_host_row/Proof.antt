@@ -35,10 +35,9 @@ read-whole : (bytes : List ℕ) → length bytes ≡ hostCellBytes * cellCount �
 read-whole bytes whole = rw (eq-eqb _ _ whole)
 
 -- the cell that starts i cells on reads as cell i does
-reads-there : (bytes : List ℕ) (i : ℕ) (cell : HostCell) (r : Reading) → i < cellCount → cell ≡ hostCellAt bytes (hostCellBytes * i)
-    → r ≡ readCell cell → r ≡ readCell (getD (hostCells bytes) i Empty)
-reads-there bytes i cell r h e told =
-    told ∙ ap readCell (e ∙ sym (host-cells-at cellCount bytes 0 i Empty h ∙ ap (hostCellAt bytes) (zero-add (hostCellBytes * i))))
+reads-there : (bytes : List ℕ) (i : ℕ) (r : Reading) → i < cellCount → r ≡ readCell (hostCellAt bytes (hostCellBytes * i)) → r ≡ readCell (getD (hostCells bytes) i Empty)
+reads-there bytes i r h told =
+    told ∙ ap readCell (sym (host-cells-at cellCount bytes 0 i Empty h ∙ ap (hostCellAt bytes) (zero-add (hostCellBytes * i))))
 
 abbrev Inv-loop : tie.InvT-loop
 Inv-loop bytes row₀ i₀ row i =
@@ -65,23 +64,20 @@ blank-row-requires c κs = search needs
 loop-holds : tie.Need-loop-holds Inv-loop μ-loop
 loop-holds c = (omega arith, ap (λ (row : Row). length (row .cells)) (c .blank-row .ensures), refl, refl)
 
-mul-host-cell-at : tie.Need-mul-host-cell-at Inv-loop μ-loop
-mul-host-cell-at c = search needs
+mul-read-host-cell : tie.Need-mul-read-host-cell Inv-loop μ-loop
+mul-read-host-cell c = search needs
 
-host-cell-at-requires : tie.Need-host-cell-at-requires Inv-loop μ-loop
-host-cell-at-requires c κs = search needs
-
-read-cell-requires : tie.Need-read-cell-requires Inv-loop μ-loop
-read-cell-requires c κs = search needs
+read-host-cell-requires : tie.Need-read-host-cell-requires Inv-loop μ-loop
+read-host-cell-requires c κs = search needs
 
 enum-told : tie.Need-enum-told Inv-loop μ-loop
 enum-told c = search needs
 
-add-t14 : tie.Need-add-t14 Inv-loop μ-loop
-add-t14 c = search needs
+add-t13 : tie.Need-add-t13 Inv-loop μ-loop
+add-t13 c = search needs
 
-cast-t15 : tie.Need-cast-t15 Inv-loop μ-loop
-cast-t15 c = search needs
+cast-t14 : tie.Need-cast-t14 Inv-loop μ-loop
+cast-t14 c = search needs
 
 refused-requires-2 : tie.Need-refused-requires-2 Inv-loop μ-loop
 refused-requires-2 c κs = search needs
@@ -89,12 +85,11 @@ refused-requires-2 c κs = search needs
 returns-2 : tie.Need-returns-2 Inv-loop μ-loop
 returns-2 c =
     let r = c .before .before .before in
-    let l = r .before .before .before in
+    let l = r .before .before in
     let tested = l .before .before in
     let bytes = tested .before .before .args .bytes .now in
     let i = l .loop .i in
-    let told =
-    reads-there bytes i _ _ (r .before .before .loop-test .taken) (r .before .host-cell-at .ensures) (sym (c .before .enum-told .given .1) ∙ r .read-cell .ensures) in
+    let told = reads-there bytes i _ (r .before .loop-test .taken) (sym (c .before .enum-told .given .1) ∙ r .read-host-cell .ensures) in
     says-refused _ _ _ (c .refused2 .ensures)
     (read-whole bytes (tested .if1 .left)
     ∙ read-refused (hostCells bytes) i (l .loop .inv .3 ∙ search-on (hostCells bytes) i _ (omega (arith, host-cells-length cellCount bytes 0)) told))
@@ -102,8 +97,8 @@ returns-2 c =
 enum-known-reading : tie.Need-enum-known-reading Inv-loop μ-loop
 enum-known-reading c = search needs
 
-mul-t18 : tie.Need-mul-t18 Inv-loop μ-loop
-mul-t18 c = search needs
+mul-t17 : tie.Need-mul-t17 Inv-loop μ-loop
+mul-t17 c = search needs
 
 element-set-from-row : tie.Need-element-set-from-row Inv-loop μ-loop
 element-set-from-row c = search needs
@@ -117,14 +112,13 @@ loop-less c = search needs
 loop-again : tie.Need-loop-again Inv-loop μ-loop
 loop-again c =
     let r = c .before .before .before in
-    let l = r .before .before .before in
+    let l = r .before .before in
     let bytes = l .before .before .before .before .args .bytes .now in
     let cells = hostCells bytes in
     let slots = l .loop .row .cells in
     let i = l .loop .i in
     let inside : i < length cells = omega (arith, host-cells-length cellCount bytes 0) in
-    let told =
-    reads-there bytes i _ _ (r .before .before .loop-test .taken) (r .before .host-cell-at .ensures) (sym (c .before .reading .given .1) ∙ r .read-cell .ensures) in (
+    let told = reads-there bytes i _ (r .before .loop-test .taken) (sym (c .before .reading .given .1) ∙ r .read-host-cell .ensures) in (
       omega arith,
       length-set slots i _ ∙ l .loop .inv .1,
       fill-step slots (slotsRead cells) i _ (record { cell = Blank }) (omega arith) (omega (arith, slots-read-length cells)) (l .loop .inv .2)
@@ -157,16 +151,15 @@ read-host-row-spec =
     returns
     blank-row-requires
     loop-holds
-    mul-host-cell-at
-    host-cell-at-requires
-    read-cell-requires
+    mul-read-host-cell
+    read-host-cell-requires
     enum-told
-    add-t14
-    cast-t15
+    add-t13
+    cast-t14
     refused-requires-2
     returns-2
     enum-known-reading
-    mul-t18
+    mul-t17
     element-set-from-row
     add-i
     loop-less
