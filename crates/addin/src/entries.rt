@@ -1,8 +1,11 @@
-// The two entries of the worksheet host: each hands on what it was lent.
+// The entries of the worksheet host: each hands on what it was lent.
+use floorhost::host::check_host_floor_beam;
 use hosting::check::check_host_row;
 use hosting::pack::pack_host_row;
 ghost use mathlib.Core.Path.{_≡_};
 ghost use lib.ListN.{length};
+ghost use Rattle.floorrules.specs.Demand.{floorFactor};
+ghost use Rattle.floorrules.specs.HostBeam.{beamReturns, beamLeaves, HostKeepsFloorDemand};
 ghost use Rattle.member.specs.Demand3.{demandFactor};
 ghost use Rattle.worksheet.specs.Entries.{checkReturns, checkLeaves, packReturns, packLeaves, HostKeepsDemand3};
 
@@ -23,4 +26,14 @@ pub extern "C" fn lvl_pack_row(row: &[u8], buffer: &mut [u8]) -> u64
     ensures buffer { λ _. ⌜ now (buffer .exit) ≡ packLeaves (now (row .entry)) (now (buffer .entry)) ⌝ }
 {
     pack_host_row(row, buffer)
+}
+
+// Checks the host's floor beam. Returns 0 for pass, 1 for fail, or 1000 × number + cell.
+#[no_mangle]
+pub extern "C" fn lvl_check_floor_beam(beam: &[u8], answer: &mut [u8]) -> u64
+    ensures result { λ r. ⌜ r ≡ beamReturns (now (beam .entry)) (length (now (answer .entry))) ⌝ }
+    ensures buffer { λ _. ⌜ now (answer .exit) ≡ beamLeaves (now (beam .entry)) (now (answer .entry)) ⌝ }
+    ensures demand { λ r. ⌜ HostKeepsFloorDemand (now (beam .entry)) (now (answer .entry)) r (now (answer .exit)) floorFactor ⌝ }
+{
+    check_host_floor_beam(beam, answer)
 }

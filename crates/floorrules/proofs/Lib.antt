@@ -1,0 +1,9 @@
+pub mod LoadLaws
+pub mod RegimeMeaning
+pub mod BeamRowLaws
+pub mod FloorDemand
+pub mod BeamMeaning
+pub mod WorkedLaws
+pub mod DemandRefutes
+pub mod HostBeamLaws
+pub mod HostBeamMeaning
