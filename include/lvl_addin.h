@@ -1,11 +1,12 @@
 /*
  * lvl_addin.h - checks of LVL members and steel dowel joints to SP 64.13330.
  *
- * Two entries over bytes that the host lends:
+ * Three entries over bytes that the host lends:
  *
- *   lvl_check_row   judges one member: pass or fail, the check that governs,
- *                   its utilisation, the dowels of the joint
- *   lvl_pack_row    packs one member's cells into at most 97 bytes
+ *   lvl_check_row         judges one member: pass or fail, the check that
+ *                         governs, its utilisation, the dowels of the joint
+ *   lvl_pack_row          packs one member's cells into at most 97 bytes
+ *   lvl_check_floor_beam  judges a floor beam by its loads and span
  *
  * Link with libaddin.a. Compiles as C99 or later and as C++11 or later.
  *
@@ -91,13 +92,47 @@
  * check of greatest utilisation is named, the lowest number among equals.
  *
  *
+ * THE FLOOR BEAM
+ *
+ * A beam on two supports under an even load, typed by its loads. As bytes it is
+ * 72 long: eight cells of 9 bytes each, as in a row:
+ *
+ *   bytes            cell                                       range
+ *    0 to  8         permanent and long-term load, N/m          0 and more
+ *    9 to 17         remaining load, N/m                        0 and more
+ *                    both loads together, q                     100 to 100000
+ *   18 to 26         span, mm                                   500 to 20000
+ *   27 to 35         grade, as cell 2 of a row                  1 to 3
+ *   36 to 44         wood moisture, percent, as cell 4          0 to 60
+ *   45 to 53         office factor, thousandths, as cell 5      500 to 1000
+ *   54 to 62         width b, mm, as cell 6                     20 to 300
+ *   63 to 71         height h, mm, as cell 7                    60 to 2500
+ *
+ * Loads are design values. A row of kind 2 is made of them and judged: regime
+ * Be (2) where the first load is more than 80 percent of q, otherwise Ve (3);
+ * M = q * span^2 / 8000 in N mm and Q = q * span / 2000 in N, each rounded up
+ * to a whole number. Sag and lateral stability are not checked.
+ *
+ * The answer is six doubles in 48 bytes, each lowest byte first, all whole
+ * numbers: the three of a row's answer (utilisation; dowels, which are 0; the
+ * check that governs, 7 or 8), then
+ *
+ *   bytes 24 to 31   the regime, 2 or 3
+ *   bytes 32 to 39   M, N mm, at most 5000000000
+ *   bytes 40 to 47   Q, N, at most 1000000
+ *
+ * A pass holds with nothing rounded, M and Q included; a fail means that the
+ * check named fails so with 1.005 times M and Q.
+ *
+ *
  * REFUSALS
  *
- * A row or a buffer that cannot be taken is refused: the entry returns 1000
- * times the refusal's number plus a cell, and writes nothing at all. The cell
- * is 0 where no cell of the row is to blame. What is tested comes in this
- * order, and the first to be found is returned:
+ * A row, a floor beam or a buffer that cannot be taken is refused: the entry
+ * returns 1000 times the refusal's number plus a cell, and writes nothing at
+ * all. The cell is 0 where no cell of a row is to blame. What is tested comes
+ * in this order, and the first to be found is returned:
  *
+ *   lvl_check_row and lvl_pack_row:
  *   1  unreadable: the row is not 198 bytes long (cell 0)
  *   1  unreadable: the lowest cell whose first byte is neither 0 nor 1, or that
  *      is filled with anything but a whole number from 0 to 17179869183
@@ -115,13 +150,23 @@
  *   lvl_pack_row then:
  *   5  the row takes more bytes than are lent (cell 0)
  *
+ *   lvl_check_floor_beam:
+ *   1  unreadable: the beam is not 72 bytes long (cell 0)
+ *   8  a load or the span is blank, unreadable as above, or outside its range,
+ *      or both loads together are (cell 0)
+ *   1  unreadable: the lowest of cells 2, 4, 5, 6 and 7, by these numbers
+ *   2  misfilled: the lowest of cells 2, 4, 5, 6 and 7 that is blank
+ *   3  unknown code: cell 2
+ *   4  out of range: the lowest of cells 4, 5, 6 and 7
+ *   5  the answer is not 48 bytes long (cell 0)
+ *
  *
  * WHAT THE CALLER SEES TO
  *
  * C cannot check, and the entries cannot test, that
  *   - each pointer is valid for as many bytes as its length says; it may be
  *     null only where that length is 0;
- *   - the buffer that is written overlaps no part of the row.
+ *   - the buffer that is written overlaps no part of the row or the beam.
  * Bytes need no alignment.
  *
  *
@@ -134,8 +179,9 @@
  * Windows or macOS (other object files and conventions), on ARM, or in 32-bit
  * programs.
  *
- * Stack: lvl_check_row 1,112 bytes, lvl_pack_row 1,384 bytes. No heap, no
- * system call, no lock, and no data of its own that it writes.
+ * Stack: lvl_check_row 856 bytes, lvl_pack_row 1,384 bytes,
+ * lvl_check_floor_beam 832 bytes. No heap, no system call, no lock, and no
+ * data of its own that it writes.
  *
  * Threads: any number may call at once, each with a buffer of its own to write
  * to. Nothing is kept between calls.
@@ -195,6 +241,10 @@
  *   }
  *
  * It prints: pass, check 7, utilisation 690668, dowels 0
+ *
+ * A floor beam is filled and called in the same way: fill(beam, place, number)
+ * with places 1 to 8 in a beam of LVL_BEAM_BYTES, and an answer of
+ * LVL_BEAM_ANSWER_BYTES, which holds six doubles.
  */
 #ifndef LVL_ADDIN_H
 #define LVL_ADDIN_H
@@ -212,8 +262,11 @@ extern "C" {
 #define LVL_ANSWER_BYTES 24
 #define LVL_PACKED_BYTES_MAX 97
 #define LVL_PACKED_BYTES_MIN 3
+#define LVL_BEAM_CELLS 8
+#define LVL_BEAM_BYTES 72
+#define LVL_BEAM_ANSWER_BYTES 48
 
-/* What lvl_check_row returns for a row that is not refused. */
+/* What a check returns for a row or a floor beam that is not refused. */
 #define LVL_PASS 0
 #define LVL_FAIL 1
 
@@ -226,6 +279,11 @@ extern "C" {
 #define LVL_UNKNOWN_CODE 3
 #define LVL_OUT_OF_RANGE 4
 #define LVL_BUFFER_SIZE 5
+#define LVL_LOADING 8
+
+/* Regimes of a floor beam. */
+#define LVL_REGIME_BE 2
+#define LVL_REGIME_VE 3
 
 /* Numbers of checks. */
 #define LVL_CHECK_LAYOUT 1
@@ -261,6 +319,15 @@ uint64_t lvl_check_row(const uint8_t *row, size_t row_len,
  */
 uint64_t lvl_pack_row(const uint8_t *row, size_t row_len,
                       uint8_t *out, size_t out_len);
+
+/*
+ * Judges a floor beam.
+ *
+ * Returns LVL_PASS or LVL_FAIL and fills the answer's 48 bytes, or returns
+ * 1000 * number + cell for refusals 1 to 5 and 8 and leaves the answer so.
+ */
+uint64_t lvl_check_floor_beam(const uint8_t *beam, size_t beam_len,
+                              uint8_t *answer, size_t answer_len);
 
 #ifdef __cplusplus
 }

@@ -1,5 +1,6 @@
 //! Safe bindings over the add-in's C entries.
 use crate::answer::{Refusal, Verdict};
+use crate::floor_beam::{host_beam_bytes, BeamVerdict, HostBeam, BEAM_ANSWER_BYTES};
 use crate::row::{host_bytes, HostRow, ANSWER_BYTES, PACKED_BYTES};
 
 mod c {
@@ -11,6 +12,12 @@ mod c {
             answer_len: usize,
         ) -> u64;
         pub fn lvl_pack_row(row: *const u8, row_len: usize, out: *mut u8, out_len: usize) -> u64;
+        pub fn lvl_check_floor_beam(
+            beam: *const u8,
+            beam_len: usize,
+            answer: *mut u8,
+            answer_len: usize,
+        ) -> u64;
     }
 }
 
@@ -26,6 +33,12 @@ pub fn pack_bytes(row: &[u8], out: &mut [u8]) -> u64 {
     unsafe { c::lvl_pack_row(row.as_ptr(), row.len(), out.as_mut_ptr(), out.len()) }
 }
 
+/// `lvl_check_floor_beam`, for bytes of any length: 0 for pass, 1 for fail, or 1000 × refusal number + cell.
+pub fn check_floor_beam_bytes(beam: &[u8], answer: &mut [u8]) -> u64 {
+    // As above.
+    unsafe { c::lvl_check_floor_beam(beam.as_ptr(), beam.len(), answer.as_mut_ptr(), answer.len()) }
+}
+
 /// The verdict on a row of cells, or why it is refused.
 pub fn check(cells: &HostRow) -> Result<Verdict, Refusal> {
     let mut answer = [0; ANSWER_BYTES];
@@ -38,13 +51,22 @@ pub fn check(cells: &HostRow) -> Result<Verdict, Refusal> {
 
 /// The verdict that a returned 0 or 1 and the answer's bytes stand for.
 pub fn verdict(passes: bool, answer: &[u8; ANSWER_BYTES]) -> Verdict {
-    let float = |at: usize| f64::from_le_bytes(answer[at..at + 8].try_into().expect("eight bytes"));
+    verdict_at_start(passes, answer)
+}
+
+/// The verdict whose three floats an answer begins with.
+fn verdict_at_start(passes: bool, answer: &[u8]) -> Verdict {
     Verdict {
         passes,
-        utilisation: float(0) as u32,
-        count: float(8) as u32,
-        check: float(16) as u32,
+        utilisation: float_at(answer, 0) as u32,
+        count: float_at(answer, 8) as u32,
+        check: float_at(answer, 16) as u32,
     }
+}
+
+/// The float whose eight bytes start at a place.
+fn float_at(bytes: &[u8], at: usize) -> f64 {
+    f64::from_le_bytes(bytes[at..at + 8].try_into().expect("eight bytes"))
 }
 
 /// The packed bytes of a row of cells, or why it is refused.
@@ -54,5 +76,25 @@ pub fn pack(cells: &HostRow) -> Result<Vec<u8>, Refusal> {
     match Refusal::from_code(code) {
         Some(refusal) => Err(refusal),
         None => Ok(out[..code as usize].to_vec()),
+    }
+}
+
+/// The verdict on a floor beam, or why it is refused.
+pub fn check_floor_beam(cells: &HostBeam) -> Result<BeamVerdict, Refusal> {
+    let mut answer = [0; BEAM_ANSWER_BYTES];
+    let code = check_floor_beam_bytes(&host_beam_bytes(cells), &mut answer);
+    match Refusal::from_code(code) {
+        Some(refusal) => Err(refusal),
+        None => Ok(beam_verdict(code == 0, &answer)),
+    }
+}
+
+/// The verdict on a floor beam that a returned 0 or 1 and the answer's bytes stand for.
+pub fn beam_verdict(passes: bool, answer: &[u8; BEAM_ANSWER_BYTES]) -> BeamVerdict {
+    BeamVerdict {
+        verdict: verdict_at_start(passes, answer),
+        regime: float_at(answer, 24) as u32,
+        moment: float_at(answer, 32) as u64,
+        shear: float_at(answer, 40) as u64,
     }
 }

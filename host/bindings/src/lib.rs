@@ -1,7 +1,9 @@
-//! The add-in for Rust hosts: bindings over its two C entries.
+//! The add-in for Rust hosts: bindings over its C entries.
 //!
-//! [`entry::check`] judges a row of cells and [`entry::pack`] packs it.
+//! [`entry::check`] judges a row of cells, [`entry::pack`] packs it, and [`entry::check_floor_beam`] judges a floor
+//! beam by its loads and span.
 
 pub mod answer;
 pub mod entry;
+pub mod floor_beam;
 pub mod row;

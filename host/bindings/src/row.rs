@@ -21,11 +21,16 @@ pub type HostRow = [Option<f64>; CELLS];
 /// The bytes that stand for a row of cells.
 pub fn host_bytes(cells: &HostRow) -> [u8; ROW_BYTES] {
     let mut bytes = [0; ROW_BYTES];
+    put_cells(cells, &mut bytes);
+    bytes
+}
+
+/// Puts cells into bytes that are all 0, nine for each.
+pub(crate) fn put_cells(cells: &[Option<f64>], bytes: &mut [u8]) {
     for (cell, part) in cells.iter().zip(bytes.chunks_exact_mut(9)) {
         if let Some(number) = cell {
             part[0] = 1;
             part[1..].copy_from_slice(&number.to_bits().to_le_bytes());
         }
     }
-    bytes
 }

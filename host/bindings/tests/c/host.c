@@ -5,5 +5,6 @@ int main(void)
 {
     check_rows();
     pack_rows();
+    check_floor_beams();
     return 0;
 }

@@ -3,11 +3,14 @@
 
 #include <type_traits>
 
-static_assert(std::is_same<decltype(&lvl_check_row), decltype(&lvl_pack_row)>::value, "the entries share one signature");
+static_assert(std::is_same<decltype(&lvl_check_row), decltype(&lvl_pack_row)>::value
+                  && std::is_same<decltype(&lvl_check_row), decltype(&lvl_check_floor_beam)>::value,
+              "the entries share one signature");
 
 int main()
 {
     check_rows();
     pack_rows();
+    check_floor_beams();
     return 0;
 }

@@ -1,7 +1,7 @@
 /*
- * Both entries in every floating-point mode: flush to zero, denormals are zero, the four ways to round, exceptions masked and
- * not. Each answers as it does in the default mode, and there a cell that is no whole number is refused by its number. The one
- * case that the header excepts is tried as well: it traps.
+ * Each entry in every floating-point mode: flush to zero, denormals are zero, the four ways to round, exceptions masked and
+ * not. It answers as it does in the default mode, and there a cell that is no whole number is refused as the header says. The
+ * one case that the header excepts is tried as well: it traps.
  */
 #define _POSIX_C_SOURCE 200809L
 #include <setjmp.h>
@@ -34,21 +34,20 @@ static const uint64_t numbers[] = {
 #define UNREADABLE 20
 #define NUMBERS (sizeof numbers / sizeof numbers[0])
 
-struct answers {
-    uint64_t check, pack;
-    uint8_t answer[LVL_ANSWER_BYTES], packed[LVL_PACKED_BYTES_MAX];
+struct answer {
+    uint64_t code;
+    uint8_t lent[LENT_MAX];
 };
 
 /* Exception flags that calls have set. */
 static unsigned flags;
 
-static struct answers call(const uint8_t *row, unsigned mode)
+static struct answer call(const struct trial *trial, const uint8_t *bytes, unsigned mode)
 {
-    struct answers got;
+    struct answer got;
     memset(&got, 0xA5, sizeof got);
     _mm_setcsr(mode);
-    got.check = lvl_check_row(row, LVL_ROW_BYTES, got.answer, sizeof got.answer);
-    got.pack = lvl_pack_row(row, LVL_ROW_BYTES, got.packed, sizeof got.packed);
+    got.code = call_entry(trial, bytes, got.lent);
     flags |= _mm_getcsr() & FLAGS;
     _mm_setcsr(DEFAULT);
     return got;
@@ -65,20 +64,20 @@ static void on_trap(int signal)
     siglongjmp(before, 1);
 }
 
-static int traps(const uint8_t *row)
+static int traps(const struct trial *trial, const uint8_t *bytes)
 {
     if (sigsetjmp(before, 1) == 0) {
-        call(row, MASKS & ~DENORMAL_MASK);
+        call(trial, bytes, MASKS & ~DENORMAL_MASK);
         return 0;
     }
     _mm_setcsr(DEFAULT);
     return 1;
 }
 
-/* The row in every mode but those that the header excepts: a trap on subnormals, where they are not zero and the row has one. */
-static void in_every_mode(const uint8_t *row, int subnormal)
+/* A call in every mode but those that the header excepts: a trap on subnormals, where they are not zero and a cell has one. */
+static void in_every_mode(const struct trial *trial, const uint8_t *bytes, int subnormal)
 {
-    struct answers usual = call(row, DEFAULT);
+    struct answer usual = call(trial, bytes, DEFAULT);
     unsigned flush, denormals, rounding, trap;
     for (flush = 0; flush <= 1; flush++)
         for (denormals = 0; denormals <= 1; denormals++)
@@ -86,44 +85,58 @@ static void in_every_mode(const uint8_t *row, int subnormal)
                 for (trap = 0; trap <= 2; trap++) {
                     int excepted = subnormal && !denormals;
                     unsigned masks = trap == 0 ? MASKS : trap == 1 || excepted ? DENORMAL_MASK : 0;
-                    struct answers got = call(row, masks | flush * FLUSH_TO_ZERO | denormals * DENORMALS_ARE_ZERO
-                                                       | rounding * ROUNDINGS);
-                    calls += 2;
+                    struct answer got = call(trial, bytes, masks | flush * FLUSH_TO_ZERO | denormals * DENORMALS_ARE_ZERO
+                                                               | rounding * ROUNDINGS);
+                    calls++;
                     different += memcmp(&got, &usual, sizeof got) != 0;
                 }
 }
 
-static void expect(const uint8_t *row, uint64_t refusal)
+/* The refusal for an unreadable cell. A floor beam's loads and span have one of their own, its other cells a row's numbers. */
+static uint64_t refusal(const struct trial *trial, size_t place)
 {
-    struct answers got = call(row, DEFAULT);
-    not_refused += got.check != refusal || got.pack != refusal;
+    static const uint64_t of_beam[LVL_BEAM_CELLS] = {0, 0, 0, 2, 4, 5, 6, 7};
+    uint64_t cell = trial->called == lvl_check_floor_beam ? of_beam[place - 1] : place;
+    return LVL_REFUSAL * (cell == 0 ? LVL_LOADING : LVL_UNREADABLE) + cell;
+}
+
+static void expect(const struct trial *trial, const uint8_t *bytes, size_t place)
+{
+    not_refused += call(trial, bytes, DEFAULT).code != refusal(trial, place);
+}
+
+/* Bits in each cell of each sample, then in all cells at once. */
+static void try_bits(const struct trial *trial, size_t i)
+{
+    uint8_t bytes[READ_MAX];
+    size_t sample, place;
+    for (sample = 0; sample < trial->samples; sample++)
+        for (place = 1; place <= trial->cells; place++) {
+            fill_sample(trial, bytes, sample);
+            in_every_mode(trial, bytes, 0);
+            fill_bits(bytes, place, numbers[i]);
+            in_every_mode(trial, bytes, i < SUBNORMALS);
+            trapped += traps(trial, bytes);
+            if (i < UNREADABLE)
+                expect(trial, bytes, place);
+        }
+    for (place = 1; place <= trial->cells; place++)
+        fill_bits(bytes, place, numbers[i]);
+    in_every_mode(trial, bytes, i < SUBNORMALS);
+    if (i < UNREADABLE)
+        expect(trial, bytes, 1);
 }
 
 int main(void)
 {
-    uint8_t row[LVL_ROW_BYTES];
-    size_t number, cell, i;
+    size_t i, j;
     struct sigaction action;
     memset(&action, 0, sizeof action);
     action.sa_handler = on_trap;
     sigaction(SIGFPE, &action, NULL);
-    for (i = 0; i < NUMBERS; i++) {
-        for (number = 0; number < ROWS; number++)
-            for (cell = 1; cell <= LVL_CELLS; cell++) {
-                fill_row(row, number);
-                in_every_mode(row, 0);
-                fill_bits(row, cell, numbers[i]);
-                in_every_mode(row, i < SUBNORMALS);
-                trapped += traps(row);
-                if (i < UNREADABLE)
-                    expect(row, LVL_REFUSAL * LVL_UNREADABLE + cell);
-            }
-        for (cell = 1; cell <= LVL_CELLS; cell++)
-            fill_bits(row, cell, numbers[i]);
-        in_every_mode(row, i < SUBNORMALS);
-        if (i < UNREADABLE)
-            expect(row, LVL_REFUSAL * LVL_UNREADABLE + 1);
-    }
+    for (i = 0; i < TRIALS; i++)
+        for (j = 0; j < NUMBERS; j++)
+            try_bits(&trials[i], j);
     printf("%lu calls, %lu differ, %lu not refused, %lu trapped, flags but the denormal one: %u\n", calls, different,
            not_refused, trapped, flags & ~DENORMAL_FLAG);
     return 0;

@@ -1,6 +1,8 @@
 //! Hosts in C99 and in C++11, compiled against the header and linked with the archive, get the answers that it states.
 use crate::building::{compile, include_folder, printed, scratch, source, succeed, C99, CPP11};
+use lvl_addin::floor_beam::{BEAM_ANSWER_BYTES, BEAM_BYTES, BEAM_CELLS};
 use lvl_addin::row::{ANSWER_BYTES, CELLS, PACKED_BYTES};
+
 /// What the test hosts print, with the sizes of the bindings: the header's are no others.
 fn expected() -> String {
     let blank = (CELLS + 7) / 8;
@@ -23,6 +25,25 @@ buffer untouched: {PACKED_BYTES} of {PACKED_BYTES}
 blank row: {blank}
 bytes: 0 0 0, then untouched: {after_blank}
 full row: {PACKED_BYTES}
+floor beam: {BEAM_CELLS} cells, {BEAM_BYTES} bytes
+greatest loads and span: 1, utilisation 9999999, count 0, check 7, regime 3, M 5000000000, Q 1000000
+beam that fails: 1, utilisation 1038489, count 0, check 8, regime 2, M 2722729, Q 9039
+beam that passes: 0, utilisation 457810, count 0, check 7, regime 3, M 4438042, Q 3885
+beam too short: 1000
+no beam: 1000
+answer too short: 5000
+no answer: 5000
+width 301: 4006
+width 301, answer too short: 4006
+grade 4: 3002
+no grade: 2002
+moisture 12.5: 1004
+load 12.5: 8000
+first byte of a load: 8000
+no load: 8000
+loads of 99: 8000
+too short, loads of 99: 1000
+answer untouched: {BEAM_ANSWER_BYTES} of {BEAM_ANSWER_BYTES}
 "
     )
 }

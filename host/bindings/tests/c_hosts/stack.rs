@@ -2,6 +2,13 @@
 use crate::building::{include_folder, printed, source, C99};
 use std::fs::read_to_string;
 
+/// The entries, each with the words before its figure in README.md.
+const ENTRIES: [(&str, &str); 3] = [
+    ("lvl_check_row", "a check takes"),
+    ("lvl_pack_row", "packing"),
+    ("lvl_check_floor_beam", "a floor beam"),
+];
+
 /// The figure after a word in a text, commas left out.
 fn figure(text: &str, word: &str) -> usize {
     let (_, after) = text
@@ -22,8 +29,8 @@ fn no_more_than_the_header_says() {
     let touched = printed(&C99, "stack", &source("stack.c"));
     let header = read_to_string(include_folder().join("lvl_addin.h")).unwrap();
     let (_, stack) = header.split_once("Stack: ").expect("a paragraph on it");
-    for entry in ["check", "pack"] {
-        let stated = figure(stack, &format!("lvl_{entry}_row"));
+    for (entry, _) in ENTRIES {
+        let stated = figure(stack, entry);
         let touched = figure(&touched, entry);
         assert!(
             touched <= stated && stated < touched + 200,
@@ -34,8 +41,7 @@ fn no_more_than_the_header_says() {
     let (_, readme) = readme
         .split_once("Any number of threads")
         .expect("a word on them");
-    for (entry, word) in [("check", "a check takes"), ("pack", "packing")] {
-        let stated = figure(stack, &format!("lvl_{entry}_row"));
-        assert_eq!(figure(readme, word), stated);
+    for (entry, word) in ENTRIES {
+        assert_eq!(figure(readme, word), figure(stack, entry), "{entry}");
     }
 }
