@@ -96,9 +96,9 @@ fn named_check_fails(grown: &Unrounded, check: u32) -> Result<(), String> {
 /// The rules with every rounding left out, for forces of `thousandths` / 1000 of those in the row.
 ///
 /// For cells within their ranges each product below that is not part of a `Ratio` stays under 2^64.
-struct Unrounded<'a> {
-    cells: &'a Cells,
-    thousandths: u64,
+pub(crate) struct Unrounded<'a> {
+    pub(crate) cells: &'a Cells,
+    pub(crate) thousandths: u64,
 }
 
 impl Unrounded<'_> {
@@ -181,7 +181,7 @@ impl Unrounded<'_> {
             5 => self.axial_force() <= self.net_tension_capacity(self.width()),
             6 => self.axial_force() <= self.net_tension_capacity(2 * self.side_piece()),
             7 => self.moment() <= self.moment_capacity(),
-            8 => self.shear_force() <= self.strength(SHEAR) * (2 * self.area()) / 3000,
+            8 => self.shear_force() <= self.shear_capacity(),
             9 => self.axial_force() <= self.buckling_capacity(self.across_height()),
             10 => self.axial_force() <= self.buckling_capacity(self.across_width()),
             11 => self.combined_holds(),
@@ -290,8 +290,12 @@ impl Unrounded<'_> {
     }
 
     /// MR.
-    fn moment_capacity(&self) -> Ratio {
+    pub(crate) fn moment_capacity(&self) -> Ratio {
         self.strength(FLEXURAL) * (self.area() * self.height()) / 6000
+    }
+
+    pub(crate) fn shear_capacity(&self) -> Ratio {
+        self.strength(SHEAR) * (2 * self.area()) / 3000
     }
 
     /// NR, with the strength of the kind's axial force.

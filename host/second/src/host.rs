@@ -1,4 +1,4 @@
-//! The two entries that a host calls, on byte slices.
+//! The two entries that a host calls for a row, on byte slices.
 use crate::rules::Rules;
 use lvl_addin::answer::{Refusal, Verdict};
 use lvl_addin::row::ANSWER_BYTES;
@@ -7,10 +7,15 @@ use lvl_addin::row::ANSWER_BYTES;
 pub fn answer_bytes<R: Rules>(verdict: &Verdict) -> [u8; ANSWER_BYTES] {
     let mut bytes = [0; ANSWER_BYTES];
     let numbers = [verdict.utilisation, verdict.count, verdict.check];
-    for (part, number) in bytes.chunks_exact_mut(8).zip(numbers) {
-        part.copy_from_slice(&R::float_bytes(f64::from(number)));
-    }
+    put_floats::<R>(&numbers.map(f64::from), &mut bytes);
     bytes
+}
+
+/// Puts floats into an answer, eight bytes for each.
+pub fn put_floats<R: Rules>(floats: &[f64], bytes: &mut [u8]) {
+    for (part, &float) in bytes.chunks_exact_mut(8).zip(floats) {
+        part.copy_from_slice(&R::float_bytes(float));
+    }
 }
 
 /// The bytes of a float in an answer.

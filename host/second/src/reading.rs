@@ -1,4 +1,4 @@
-//! Reading the host's row: bytes to floats, floats to whole numbers by their bits.
+//! Reading the host's cells: bytes to floats, floats to whole numbers by their bits.
 use crate::cells::Cells;
 use crate::rules::Rules;
 use lvl_addin::answer::Refusal;
@@ -42,16 +42,21 @@ pub fn read_cell<R: Rules>(tag: u8, bits: u64) -> Option<Option<u64>> {
     }
 }
 
+/// The cell that nine bytes of the host's are.
+pub fn read_part<R: Rules>(part: &[u8]) -> Option<Option<u64>> {
+    let mut float = [0; 8];
+    float.copy_from_slice(&part[1..]);
+    R::read_cell(part[0], R::float_bits(float))
+}
+
 /// The cells of the host's row, or a refusal: for its length, or else for the lowest cell that does not read.
 pub fn read_row<R: Rules>(row: &[u8]) -> Result<Cells, Refusal> {
     if row.len() != ROW_BYTES {
         return Err(Refusal { number: 1, cell: 0 });
     }
     let mut cells = [None; CELLS];
-    for (at, bytes) in row.chunks_exact(9).enumerate() {
-        let mut float = [0; 8];
-        float.copy_from_slice(&bytes[1..]);
-        cells[at] = R::read_cell(bytes[0], R::float_bits(float)).ok_or(Refusal {
+    for (at, part) in row.chunks_exact(9).enumerate() {
+        cells[at] = read_part::<R>(part).ok_or(Refusal {
             number: 1,
             cell: at as u32 + 1,
         })?;

@@ -2,6 +2,9 @@
 //!
 //! Every returned number and every lent byte must be equal, every verdict of the entry must keep demand 3, and every
 //! class of row, verdict and refusal that can occur must have occurred often enough to mean something.
+mod common;
+
+use common::{assert_lengths, both};
 use lvl_addin::answer::Refusal;
 use lvl_addin::entry;
 use lvl_addin::row::{ANSWER_BYTES, CELLS};
@@ -100,61 +103,6 @@ impl Tally {
     fn refuse(&mut self, operation: Operation, refusal: Refusal) {
         *self.refusals.entry((operation, refusal)).or_default() += 1;
     }
-}
-
-/// Bytes to lend, with guards around them.
-#[derive(Clone, PartialEq, Eq, Debug)]
-struct Lent {
-    bytes: [u8; Lent::SIZE],
-    length: usize,
-}
-
-impl Lent {
-    const GUARD: usize = 40;
-    const SIZE: usize = (2 * Lent::GUARD + LONGEST_SPACE).next_multiple_of(8);
-
-    /// Bytes in a pattern that differs from row to row and from place to place.
-    fn new(length: usize, salt: u64) -> Lent {
-        let mut bytes = [0; Lent::SIZE];
-        for (at, byte) in bytes.iter_mut().enumerate() {
-            *byte = (at as u8).wrapping_mul(29) ^ salt as u8;
-        }
-        Lent { bytes, length }
-    }
-
-    fn part(&mut self) -> &mut [u8] {
-        &mut self.bytes[Lent::GUARD..Lent::GUARD + self.length]
-    }
-}
-
-/// An entry: the row and the lent bytes to the returned number.
-type Entry = fn(&[u8], &mut [u8]) -> u64;
-
-/// Calls both implementations on the same row with equal bytes lent, holds the results equal, guards included, and
-/// gives the returned number and the bytes.
-fn both(proved: Entry, second: Entry, row: &[u8], length: usize, salt: u64) -> (u64, Lent) {
-    let before = Lent::new(length, salt);
-    let mut ours = before.clone();
-    let mut theirs = before.clone();
-    let code = proved(row, ours.part());
-    assert_eq!(
-        code,
-        second(row, theirs.part()),
-        "row {salt}: {row:?}, {length} bytes lent"
-    );
-    assert!(
-        ours == theirs,
-        "row {salt}: {row:?}, returned {code}\nentry  {:?}\nsecond {:?}",
-        ours.bytes,
-        theirs.bytes
-    );
-    if code >= 1000 {
-        assert!(
-            ours == before,
-            "row {salt}: {row:?} is refused, and yet bytes are written"
-        );
-    }
-    (code, ours)
 }
 
 fn compare(case: &Case, tally: &mut Tally) {
@@ -313,14 +261,10 @@ fn assert_classes(tally: &Tally) {
 }
 
 /// Holds every length to have occurred often enough.
-fn assert_lengths(tally: &Tally) {
-    for length in 0..=LONGEST_ROW {
-        let rows = tally.row_lengths.get(&length).copied().unwrap_or(0);
-        assert!(
-            rows >= LEAST_OF_LENGTH,
-            "only {rows} rows of {length} bytes"
-        );
-    }
+fn assert_every_length(tally: &Tally) {
+    assert_lengths("rows", LONGEST_ROW, LEAST_OF_LENGTH, |length| {
+        tally.row_lengths.get(&length).copied()
+    });
     for good in [true, false] {
         assert_lent("answers", &tally.answer_lengths, LONGEST_ANSWER, good);
         assert_lent("buffers", &tally.space_lengths, LONGEST_SPACE, good);
@@ -328,13 +272,10 @@ fn assert_lengths(tally: &Tally) {
 }
 
 fn assert_lent(what: &str, lengths: &BTreeMap<(usize, bool), u64>, longest: usize, good: bool) {
-    for length in 0..=longest {
-        let rows = lengths.get(&(length, good)).copied().unwrap_or(0);
-        assert!(
-            rows >= LEAST_OF_LENGTH,
-            "only {rows} {what} of {length} bytes, good row {good}"
-        );
-    }
+    let what = format!("{what} (good row {good})");
+    assert_lengths(&what, longest, LEAST_OF_LENGTH, |length| {
+        lengths.get(&(length, good)).copied()
+    });
 }
 
 #[test]
@@ -346,7 +287,7 @@ fn the_entries_and_the_second_implementation_agree() {
     print(&tally);
     assert!(tally.rows >= 2_000_000);
     assert_classes(&tally);
-    assert_lengths(&tally);
+    assert_every_length(&tally);
 }
 
 /// Slices that point nowhere are as good as any without bytes.

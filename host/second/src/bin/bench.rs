@@ -1,17 +1,19 @@
-//! How fast the add-in's entries are beside the second implementation, on the same rows in the same run.
+//! How fast the add-in's entries are beside the second implementation, on the same rows and floor beams in the same
+//! run.
 //!
 //! `bench` prints rows per second and their ratio. `bench once WHO WHAT MIX ROWS` only runs, for a tool that counts
-//! instructions; a run of 0 rows gives what is to be taken off. WHO is `entry` or `second`, WHAT `check` or `pack`,
-//! and MIX a name of the table without its spaces.
+//! instructions; a run of 0 rows gives what is to be taken off. WHO is `entry` or `second`, WHAT `check`, `pack` or
+//! `floor`, and MIX a name of the table without its spaces.
 use lvl_addin::entry;
+use lvl_addin::floor_beam::{BEAM_ANSWER_BYTES, BEAM_BYTES};
 use lvl_addin::row::{ANSWER_BYTES, PACKED_BYTES, ROW_BYTES};
 use lvl_second::rows::random::Random;
 use lvl_second::rows::{bytes_of, judged, refused};
-use lvl_second::{Cells, Paper, Rules};
+use lvl_second::{beams, Cells, Paper, Rules};
 use std::hint::black_box;
 use std::time::{Duration, Instant};
 
-/// The rows of a mix: few enough to stay in the cache.
+/// The rows or beams of a mix: few enough to stay in the cache.
 const ROWS: usize = 1000;
 
 /// How often each is timed, in turns, and for how long at a time. The best time counts.
@@ -19,7 +21,6 @@ const REPEATS: usize = 9;
 const TURN: Duration = Duration::from_millis(20);
 
 type Entry = fn(&[u8], &mut [u8]) -> u64;
-type Row = [u8; ROW_BYTES];
 
 /// An operation in both implementations.
 struct Operation {
@@ -29,6 +30,7 @@ struct Operation {
     second: Entry,
 }
 
+/// The operations on rows.
 const OPERATIONS: [Operation; 2] = [
     Operation {
         name: "check",
@@ -44,47 +46,92 @@ const OPERATIONS: [Operation; 2] = [
     },
 ];
 
-/// Rows of one sort.
-struct Mix {
+/// The operation on floor beams.
+const FLOOR: Operation = Operation {
+    name: "floor",
+    lent: BEAM_ANSWER_BYTES,
+    entry: entry::check_floor_beam_bytes,
+    second: lvl_second::check_floor_beam_bytes,
+};
+
+/// Rows of one sort, or floor beams, by their bytes.
+struct Mix<const BYTES: usize> {
     name: &'static str,
-    rows: Vec<Row>,
+    rows: Vec<[u8; BYTES]>,
 }
 
-impl Mix {
-    /// The first rows of a maker that are judged, or that are refused.
-    fn new(name: &'static str, judged: bool, make: impl Fn(&mut Random) -> Cells) -> Mix {
+impl<const BYTES: usize> Mix<BYTES> {
+    /// The first rows of a maker that are as wanted.
+    fn new(
+        name: &'static str,
+        make: impl Fn(&mut Random) -> [u8; BYTES],
+        wanted: impl Fn(&[u8; BYTES]) -> bool,
+    ) -> Mix<BYTES> {
         let mut random = Random::new(1);
         let rows = std::iter::repeat_with(|| make(&mut random))
-            .filter(|cells| Paper::check_row(cells).is_ok() == judged)
-            .map(|cells| bytes_of(&cells))
+            .filter(wanted)
             .take(ROWS)
             .collect();
         Mix { name, rows }
     }
 }
 
-fn mixes() -> Vec<Mix> {
+/// Whether an entry judges what it is given.
+fn is_judged(entry: Entry, given: &[u8], answer: usize) -> bool {
+    entry(given, &mut vec![0; answer]) < 1000
+}
+
+/// Rows of a maker that are judged, or that are refused.
+fn rows(name: &'static str, judged: bool, make: impl Fn(&mut Random) -> Cells) -> Mix<ROW_BYTES> {
+    Mix::new(
+        name,
+        |random| bytes_of(&make(random)),
+        |row| is_judged(Paper::check_bytes, row, ANSWER_BYTES) == judged,
+    )
+}
+
+fn mixes() -> Vec<Mix<ROW_BYTES>> {
     vec![
-        Mix::new("kind 1", true, |random| judged::row(random, 1, false)),
-        Mix::new("kind 1 joint", true, |random| judged::row(random, 1, true)),
-        Mix::new("kind 2", true, |random| judged::row(random, 2, false)),
-        Mix::new("kind 3", true, |random| judged::row(random, 3, false)),
-        Mix::new("kind 4", true, |random| judged::row(random, 4, false)),
-        Mix::new("kind 5", true, |random| judged::row(random, 5, false)),
-        Mix::new("all kinds", true, judged::any_row),
-        Mix::new("refused", false, refused::row),
+        rows("kind 1", true, |random| judged::row(random, 1, false)),
+        rows("kind 1 joint", true, |random| judged::row(random, 1, true)),
+        rows("kind 2", true, |random| judged::row(random, 2, false)),
+        rows("kind 3", true, |random| judged::row(random, 3, false)),
+        rows("kind 4", true, |random| judged::row(random, 4, false)),
+        rows("kind 5", true, |random| judged::row(random, 5, false)),
+        rows("all kinds", true, judged::any_row),
+        rows("refused", false, refused::row),
+    ]
+}
+
+/// Beams of a maker that are judged, or that are refused.
+fn floor_beams(
+    name: &'static str,
+    judged: bool,
+    make: impl Fn(&mut Random) -> [u8; BEAM_BYTES],
+) -> Mix<BEAM_BYTES> {
+    Mix::new(name, make, |beam| {
+        is_judged(FLOOR.second, beam, BEAM_ANSWER_BYTES) == judged
+    })
+}
+
+fn beam_mixes() -> Vec<Mix<BEAM_BYTES>> {
+    vec![
+        floor_beams("beams", true, |random| {
+            beams::bytes_of(&beams::judged::beam(random))
+        }),
+        floor_beams("refused", false, beams::faults::beam),
     ]
 }
 
 /// Calls an entry on every row once.
-fn pass(entry: Entry, rows: &[Row], lent: &mut [u8]) {
+fn pass<const BYTES: usize>(entry: Entry, rows: &[[u8; BYTES]], lent: &mut [u8]) {
     for row in rows {
         black_box(entry(black_box(row), black_box(&mut *lent)));
     }
 }
 
 /// Rows per second over one turn.
-fn speed(entry: Entry, rows: &[Row], lent: &mut [u8]) -> f64 {
+fn speed<const BYTES: usize>(entry: Entry, rows: &[[u8; BYTES]], lent: &mut [u8]) -> f64 {
     let start = Instant::now();
     let mut passes = 0;
     while start.elapsed() < TURN {
@@ -95,7 +142,7 @@ fn speed(entry: Entry, rows: &[Row], lent: &mut [u8]) -> f64 {
 }
 
 /// The best speeds of an operation in both implementations, taken in turns so that both meet the same disturbances.
-fn best_speeds(operation: &Operation, rows: &[Row]) -> (f64, f64) {
+fn best_speeds<const BYTES: usize>(operation: &Operation, rows: &[[u8; BYTES]]) -> (f64, f64) {
     let mut lent = vec![0; operation.lent];
     let mut best: (f64, f64) = (0.0, 0.0);
     for _ in 0..REPEATS {
@@ -112,30 +159,48 @@ fn print_table() {
         "", "rows", "entry", "second", "ratio"
     );
     for operation in &OPERATIONS {
-        for mix in mixes() {
-            let (entry, second) = best_speeds(operation, &mix.rows);
-            let ratio = second / entry;
-            println!(
-                "{:>6}  {:<14}{entry:>14.0}{second:>14.0}{ratio:>8.2}",
-                operation.name, mix.name
-            );
-        }
+        print_lines(operation, &mixes());
+    }
+    print_lines(&FLOOR, &beam_mixes());
+}
+
+fn print_lines<const BYTES: usize>(operation: &Operation, mixes: &[Mix<BYTES>]) {
+    for mix in mixes {
+        let (entry, second) = best_speeds(operation, &mix.rows);
+        let ratio = second / entry;
+        println!(
+            "{:>6}  {:<14}{entry:>14.0}{second:>14.0}{ratio:>8.2}",
+            operation.name, mix.name
+        );
     }
 }
 
 /// Runs one implementation of one operation on so many rows of a mix; none if a name is not known.
 fn run_once(who: &str, what: &str, mix: &str, rows: &str) -> Option<()> {
+    let rows = rows.parse().ok()?;
+    if what == FLOOR.name {
+        return run_mix(&FLOOR, who, &beam_mixes(), mix, rows);
+    }
     let operation = OPERATIONS.iter().find(|operation| operation.name == what)?;
+    run_mix(operation, who, &mixes(), mix, rows)
+}
+
+fn run_mix<const BYTES: usize>(
+    operation: &Operation,
+    who: &str,
+    mixes: &[Mix<BYTES>],
+    name: &str,
+    rows: usize,
+) -> Option<()> {
     let entry = match who {
         "entry" => operation.entry,
         "second" => operation.second,
         _ => return None,
     };
-    let mix = mixes()
-        .into_iter()
-        .find(|known| known.name.replace(' ', "") == mix)?;
+    let mix = mixes
+        .iter()
+        .find(|known| known.name.replace(' ', "") == name)?;
     let mut lent = vec![0; operation.lent];
-    let rows: usize = rows.parse().ok()?;
     for _ in 0..rows / ROWS {
         pass(entry, &mix.rows, &mut lent);
     }
@@ -150,7 +215,7 @@ fn main() {
         [] => print_table(),
         ["once", who, what, mix, rows] if run_once(who, what, mix, rows).is_some() => {}
         _ => {
-            eprintln!("usage: bench [once entry|second check|pack MIX ROWS]");
+            eprintln!("usage: bench [once entry|second check|pack|floor MIX ROWS]");
             std::process::exit(2);
         }
     }

@@ -1,10 +1,8 @@
-//! Damage to the host's bytes: first bytes, floats that are no whole numbers, bits, lengths.
+//! Damage to the host's bytes: first bytes, floats that are no whole numbers, bits.
 use super::random::Random;
-use super::LONGEST_ROW;
-use lvl_addin::row::{CELLS, ROW_BYTES};
 
 /// Floats at the edges of what reads as a whole number, and beyond.
-const FLOATS: [u64; 32] = [
+pub const FLOATS: [u64; 32] = [
     0x0000_0000_0000_0000, // 0
     0x8000_0000_0000_0000, // −0
     0x0000_0000_0000_0001, // the least subnormal
@@ -39,15 +37,16 @@ const FLOATS: [u64; 32] = [
     0xFFFF_FFFF_FFFF_FFFF, // another
 ];
 
-/// Damages one or two places of a row.
-pub fn damage(random: &mut Random, row: &mut [u8; ROW_BYTES]) {
+/// Damages one or two places of a row, or of a floor beam, which has cells of the same form.
+pub fn damage(random: &mut Random, row: &mut [u8]) {
     for _ in 0..random.between(1, 2) {
         damage_once(random, row);
     }
 }
 
-fn damage_once(random: &mut Random, row: &mut [u8; ROW_BYTES]) {
-    let at = 9 * random.below(CELLS as u64) as usize;
+fn damage_once(random: &mut Random, row: &mut [u8]) {
+    let cells = row.len() as u64 / 9;
+    let at = 9 * random.below(cells) as usize;
     match random.below(8) {
         0 => row[at] = random.between(2, 255) as u8,
         1 | 2 => {
@@ -67,21 +66,13 @@ fn damage_once(random: &mut Random, row: &mut [u8; ROW_BYTES]) {
         }
         6 if random.one_in(8) => row.fill_with(|| random.bits() as u8 & random.bits() as u8 & 1),
         _ => {
-            let bit = random.below(8 * ROW_BYTES as u64) as usize;
+            let bit = random.below(8 * row.len() as u64) as usize;
             row[bit / 8] ^= 1 << (bit % 8);
         }
     }
 }
 
-fn put(row: &mut [u8; ROW_BYTES], at: usize, bits: u64) {
+/// Puts a float's bits into the cell that starts at a place.
+pub fn put(row: &mut [u8], at: usize, bits: u64) {
     row[at + 1..at + 9].copy_from_slice(&bits.to_le_bytes());
-}
-
-/// Gives a row another length: shorter, or longer with any bytes after it.
-pub fn relength(random: &mut Random, bytes: &mut [u8; LONGEST_ROW], length: &mut usize) {
-    bytes[ROW_BYTES..].fill_with(|| random.bits() as u8);
-    *length = match random.below(4) {
-        0 => random.pick(&[0, ROW_BYTES - 1, ROW_BYTES + 1]),
-        _ => random.below(LONGEST_ROW as u64 + 1) as usize,
-    };
 }

@@ -3,6 +3,7 @@ use super::judged::into_range;
 use super::random::Random;
 use crate::cells::*;
 use crate::{Paper, Rules};
+use std::ops::RangeInclusive;
 
 /// Fills the forces of a row whose other cells are filled and in range.
 pub fn fill(random: &mut Random, kind: u64, cells: &mut Cells) {
@@ -41,7 +42,7 @@ fn set(cells: &mut Cells, number: usize, force: u64) {
 }
 
 /// What holds this force at most, when no other acts.
-fn capacity(member: &Member, number: usize) -> u64 {
+pub fn capacity(member: &Member, number: usize) -> u64 {
     let (width, height) = (member.width, member.height);
     match number {
         MOMENT => Paper::bending_capacity(width, height, Paper::design_bending(member)),
@@ -113,13 +114,16 @@ fn at_the_turn(random: &mut Random, cells: &mut Cells) {
         set(&mut tried, number, force);
         Paper::check_row(&tried).is_ok_and(|verdict| verdict.passes)
     };
-    let force = random.near(greatest(number, passes));
+    let force = random.near(greatest_force(number, passes));
     set(cells, number, force);
 }
 
-/// The greatest force in the range of its cell that satisfies what every lower one does.
-fn greatest(number: usize, satisfies: impl Fn(u64) -> bool) -> u64 {
-    let range = Paper::range(number).unwrap_or(0..=1);
+fn greatest_force(number: usize, satisfies: impl Fn(u64) -> bool) -> u64 {
+    greatest(Paper::range(number).unwrap_or(0..=1), satisfies)
+}
+
+/// The greatest number of a range that satisfies what every lower one does.
+pub fn greatest(range: RangeInclusive<u64>, satisfies: impl Fn(u64) -> bool) -> u64 {
     let (mut low, mut high) = (*range.start(), *range.end());
     while low < high {
         let middle = low + (high - low).div_ceil(2);
@@ -152,7 +156,7 @@ fn tie_with_shear(random: &mut Random, cells: &mut Cells) {
         };
         used <= Paper::shear(&member)
     };
-    let moment = greatest(MOMENT, used_less);
+    let moment = greatest_force(MOMENT, used_less);
     set(cells, MOMENT, moment);
 }
 

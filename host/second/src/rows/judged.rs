@@ -33,6 +33,17 @@ pub fn row(random: &mut Random, kind: u64, joint: bool) -> Cells {
     cells
 }
 
+/// What a row of kind 2 has beside its forces.
+pub fn section(random: &mut Random) -> Cells {
+    let mut cells = [None; CELLS];
+    fill_material(random, 2, &mut cells);
+    fill_section(random, &mut cells);
+    if random.one_in(10) {
+        move_to_range_ends(random, &mut cells);
+    }
+    cells
+}
+
 /// Moves a value into the range of its cell.
 pub fn into_range(number: usize, value: u64) -> u64 {
     match Paper::range(number) {

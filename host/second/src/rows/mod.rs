@@ -2,6 +2,7 @@
 
 pub mod damaged;
 pub mod forces;
+pub mod given;
 pub mod inputs;
 pub mod judged;
 pub mod random;
@@ -9,6 +10,7 @@ pub mod refused;
 pub mod worked;
 
 use crate::{Cells, Paper, Rules};
+use given::Given;
 use lvl_addin::row::{
     host_bytes, HostRow, ANSWER_BYTES, CELLS, PACKED_BYTES, PACKED_CELL_BITS, ROW_BYTES,
 };
@@ -24,8 +26,7 @@ pub const LONGEST_SPACE: usize = PACKED_CELL_BITS.div_ceil(8) * CELLS;
 /// One call of each entry.
 #[derive(Clone)]
 pub struct Case {
-    bytes: [u8; LONGEST_ROW],
-    length: usize,
+    given: Given<LONGEST_ROW>,
     /// How many bytes are lent for the answer.
     pub answer: usize,
     /// How many bytes are lent for the packed row.
@@ -35,15 +36,12 @@ pub struct Case {
 impl Case {
     /// The host's row, of any length.
     pub fn row(&self) -> &[u8] {
-        &self.bytes[..self.length]
+        self.given.bytes()
     }
 
     fn new(row: &[u8; ROW_BYTES]) -> Case {
-        let mut bytes = [0; LONGEST_ROW];
-        bytes[..ROW_BYTES].copy_from_slice(row);
         Case {
-            bytes,
-            length: ROW_BYTES,
+            given: Given::new(row),
             answer: ANSWER_BYTES,
             space: PACKED_BYTES,
         }
@@ -94,7 +92,7 @@ impl Iterator for Cases {
         }
         let mut case = Case::new(&row);
         if random.one_in(40) {
-            damaged::relength(random, &mut case.bytes, &mut case.length);
+            case.given.relength(random);
         }
         if random.one_in(12) {
             case.answer = random.below(LONGEST_ANSWER as u64 + 1) as usize;

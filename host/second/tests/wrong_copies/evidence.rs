@@ -1,12 +1,15 @@
-//! What the wrong copies are held against: the entries' answers to the generated rows, and the texts of inputs.
+//! What the wrong copies are held against: the entries' answers to the generated rows and beams, and the texts of
+//! inputs.
 use lvl_addin::entry;
+use lvl_second::beams::{self, BeamCase, BeamCases};
 use lvl_second::rows::inputs;
 use lvl_second::rows::random::Random;
 use lvl_second::rows::{Case, Cases, LONGEST_ANSWER, LONGEST_SPACE};
-use lvl_second::{Paper, Rules};
+use lvl_second::{FloorRules, Paper, Rules};
 
-/// The rows, from the beginning of the sequence.
+/// The rows and the floor beams, from the beginnings of their sequences.
 const ROWS: usize = 150_000;
+const BEAMS: usize = 60_000;
 
 /// The short inputs of `schedule`.
 const INPUTS: usize = 300;
@@ -23,9 +26,15 @@ struct Answered {
     packed: Returned<LONGEST_SPACE>,
 }
 
+struct AnsweredBeam {
+    case: BeamCase,
+    checked: Returned<{ beams::LONGEST_ANSWER }>,
+}
+
 /// The right answers.
 pub struct Evidence {
     rows: Vec<Answered>,
+    beams: Vec<AnsweredBeam>,
     inputs: Vec<(Vec<u8>, String)>,
 }
 
@@ -36,11 +45,16 @@ impl Evidence {
             packed: call(entry::pack_bytes, case.row(), case.space),
             case,
         };
+        let answer_beam = |case: BeamCase| AnsweredBeam {
+            checked: call(entry::check_floor_beam_bytes, case.beam(), case.answer),
+            case,
+        };
         let mut random = Random::new(7);
         let mut inputs: Vec<Vec<u8>> = (0..INPUTS).map(|_| inputs::any(&mut random)).collect();
         inputs.extend((0..3).map(|beyond| inputs::long(&mut random, beyond)));
         Evidence {
             rows: Cases::new().take(ROWS).map(answer).collect(),
+            beams: BeamCases::new().take(BEAMS).map(answer_beam).collect(),
             inputs: inputs
                 .into_iter()
                 .map(|input| (input.clone(), Paper::schedule(&input)))
@@ -51,11 +65,11 @@ impl Evidence {
 
 fn call<const LENGTH: usize>(
     entry: fn(&[u8], &mut [u8]) -> u64,
-    row: &[u8],
+    given: &[u8],
     lent: usize,
 ) -> Returned<LENGTH> {
     let mut bytes = [BEFORE; LENGTH];
-    let code = entry(row, &mut bytes[..lent]);
+    let code = entry(given, &mut bytes[..lent]);
     (code, bytes)
 }
 
@@ -71,6 +85,14 @@ pub fn packing<R: Rules>(evidence: &Evidence) -> bool {
     let differs =
         |row: &Answered| call(R::pack_bytes, row.case.row(), row.case.space) != row.packed;
     evidence.rows.iter().any(differs)
+}
+
+/// Whether the floor beam's check differs from the entry.
+pub fn flooring<R: FloorRules>(evidence: &Evidence) -> bool {
+    let differs = |beam: &AnsweredBeam| {
+        call(R::check_beam_bytes, beam.case.beam(), beam.case.answer) != beam.checked
+    };
+    evidence.beams.iter().any(differs)
 }
 
 /// Whether the text of some input differs.
@@ -100,10 +122,24 @@ impl Wrong {
 macro_rules! wrong_copies {
     ($seen:ident: $($(#[$note:meta])* $name:ident { $($rule:tt)* })*) => {
         $($(#[$note])* struct $name;
-        impl lvl_second::Rules for $name { $($rule)* })*
+        impl lvl_second::Rules for $name { $($rule)* }
+        impl lvl_second::FloorRules for $name {})*
 
         pub fn copies() -> Vec<crate::evidence::Wrong> {
             vec![$(crate::evidence::Wrong::new(stringify!($name), crate::evidence::$seen::<$name>)),*]
+        }
+    };
+}
+
+/// The same for copies that change one of the floor beam's own rules.
+macro_rules! wrong_floor_copies {
+    ($($(#[$note:meta])* $name:ident { $($rule:tt)* })*) => {
+        $($(#[$note])* struct $name;
+        impl lvl_second::Rules for $name {}
+        impl lvl_second::FloorRules for $name { $($rule)* })*
+
+        pub fn copies() -> Vec<crate::evidence::Wrong> {
+            vec![$(crate::evidence::Wrong::new(stringify!($name), crate::evidence::flooring::<$name>)),*]
         }
     };
 }

@@ -1,8 +1,8 @@
 //! The test of the tests: copies of the rules that are wrong in one rule each, all of which must be seen.
 //!
-//! A copy is seen if it differs from the add-in's entries on rows of the same sequence that `compare` reads, or, in
-//! the rules of unpacking and of the program `schedule`, from the right text, to which `schedule` holds the program.
-//! A copy that panics where the entry answers is seen as well.
+//! A copy is seen if it differs from the add-in's entries on rows and floor beams of the same sequences that `compare`
+//! and `compare_beams` read, or, in the rules of unpacking and of the program `schedule`, from the right text, to which
+//! `schedule` holds the program. A copy that panics where the entry answers is seen as well.
 //!
 //! Left out: slenderness with < in place of ≤, at the limits and at 70. It is the same rule, since 12 L² = n² s²
 //! has no solution in whole numbers above 0 (12 is no square).
@@ -13,6 +13,7 @@ mod evidence;
 mod acceptance;
 mod buckling;
 mod families;
+mod floor;
 mod host;
 mod joint;
 mod packed;
@@ -23,10 +24,11 @@ mod verdict;
 use evidence::{Evidence, Wrong};
 use std::panic::{catch_unwind, set_hook, take_hook, AssertUnwindSafe};
 
-/// The least number of wrong copies, lest some be lost.
-const LEAST: usize = 700;
+/// The least numbers of wrong copies of the row's rules and of the floor beam's, lest some be lost.
+const LEAST_OF_ROW: usize = 700;
+const LEAST_OF_BEAM: usize = 100;
 
-fn all() -> Vec<Wrong> {
+fn of_the_row() -> Vec<Wrong> {
     let mut copies = families::copies();
     for more in [
         strength::copies(),
@@ -46,29 +48,31 @@ fn all() -> Vec<Wrong> {
 #[test]
 fn every_wrong_copy_is_seen() {
     let evidence = Evidence::gather();
-    let copies = all();
+    assert_seen("wrong copies", &of_the_row(), LEAST_OF_ROW, &evidence);
+    assert_seen(
+        "wrong copies of the floor beam",
+        &floor::copies(),
+        LEAST_OF_BEAM,
+        &evidence,
+    );
+}
+
+fn assert_seen(what: &str, copies: &[Wrong], least: usize, evidence: &Evidence) {
     let hook = take_hook();
     set_hook(Box::new(|_| {}));
     let mut panics = 0;
     let mut unseen = Vec::new();
-    for copy in &copies {
-        match catch_unwind(AssertUnwindSafe(|| (copy.seen)(&evidence))) {
+    for copy in copies {
+        match catch_unwind(AssertUnwindSafe(|| (copy.seen)(evidence))) {
             Ok(true) => {}
             Ok(false) => unseen.push(copy.name.as_str()),
             Err(_) => panics += 1,
         }
     }
     set_hook(hook);
-    println!(
-        "{} wrong copies, {} of them seen by a panic",
-        copies.len(),
-        panics
-    );
-    assert!(
-        unseen.is_empty(),
-        "wrong copies that no row shows: {unseen:?}"
-    );
-    assert!(copies.len() >= LEAST, "only {} wrong copies", copies.len());
+    println!("{} {what}, {panics} of them seen by a panic", copies.len());
+    assert!(unseen.is_empty(), "{what} that nothing shows: {unseen:?}");
+    assert!(copies.len() >= least, "only {} {what}", copies.len());
 }
 
 /// The right rules must not be seen, or seeing would mean nothing.
@@ -78,5 +82,6 @@ fn the_right_rules_are_not_seen_as_wrong() {
     let evidence = Evidence::gather();
     assert!(!evidence::checking::<Paper>(&evidence));
     assert!(!evidence::packing::<Paper>(&evidence));
+    assert!(!evidence::flooring::<Paper>(&evidence));
     assert!(!evidence::scheduling::<Paper>(&evidence));
 }
