@@ -1,5 +1,5 @@
-# make demo: the hall roof of examples/, judged. make test: the whole gate; its last line, printed only if everything passed,
-# is the prover's count 'N passed, 0 failed'. make bench: rows per second beside the second implementation.
+# make demo: the hall roof and the floor beams of examples/, judged. make test: the whole gate; its last line, printed only if
+# everything passed, is the prover's count 'N passed, 0 failed'. make bench: rows per second beside the second implementation.
 
 CARGO = cargo
 HOST = cd host && $(CARGO)
@@ -31,10 +31,12 @@ host-tests: prove
 	$(HOST) clippy --offline --workspace --all-targets -- --deny warnings
 	$(HOST) test --offline --profile checked --workspace -- --nocapture
 
-# The command ends with 1 where a member fails or is refused, as some of the hall roof do.
+# The command ends with 1 where a member or a beam fails or is refused, as some of both sheets do.
 demo: archive
 	@$(HOST) build --offline --release --quiet --bin sheet
 	@host/target/release/sheet examples/hall-roof.csv; test $$? -le 1
+	@echo
+	@host/target/release/sheet --floor examples/floor-beams.csv; test $$? -le 1
 
 bench: archive
 	@$(HOST) build --offline --release --quiet --bin bench

@@ -5,13 +5,13 @@ use crate::fields::{self, Fields};
 use crate::formulas::kept_as_text;
 use crate::headings::Heading;
 use crate::opening::Opening;
-use crate::row::{Outcome, Refused, SheetRow};
+use crate::row::{Outcome, SheetRow};
+use crate::schema::Schema;
 use crate::text::visible;
-use crate::{words, Report};
-use lvl_addin::answer::Verdict;
+use crate::Report;
 use std::borrow::Cow;
 
-/// The headings of the answers. A sheet that has them already gets new answers in their place.
+/// The headings of a member's answers. A sheet that has them already gets new answers in their place.
 pub const HEADINGS: [&str; 6] = [
     "verdict",
     "check",
@@ -48,7 +48,7 @@ impl AnswerColumns {
         &mut self,
         columns: &Columns,
         mut fields: Vec<Cow<'a, [u8]>>,
-        answers: [String; HEADINGS.len()],
+        answers: Vec<String>,
         extra: Fields<'a>,
     ) {
         fields.resize(columns.width(), Cow::Borrowed(b""));
@@ -108,8 +108,9 @@ impl Report for AnswerColumns {
             None => {
                 let own = columns
                     .iter()
-                    .map(|column| Cow::Borrowed(heading(column).as_bytes()));
-                let answers = HEADINGS.map(str::to_owned);
+                    .map(|column| Cow::Borrowed(heading(column, columns.schema).as_bytes()));
+                let answers = columns.schema.answers.iter();
+                let answers = answers.map(|answer| answer.heading.to_owned()).collect();
                 self.add(columns, own.collect(), answers, Fields::none());
             }
         }
@@ -121,13 +122,14 @@ impl Report for AnswerColumns {
 
     fn row(&mut self, row: &SheetRow) -> Outcome {
         let judged = row.judged();
+        let answers = row.columns.schema.answers.iter();
         self.add(
             row.columns,
             row.fields.clone(),
-            answers(judged),
+            answers.map(|answer| (answer.text)(row, &judged)).collect(),
             row.extra.clone(),
         );
-        Outcome::of_judged(judged)
+        Outcome::of_judged(&judged)
     }
 
     fn finish(self) -> Vec<u8> {
@@ -144,43 +146,24 @@ fn visible_but_tab(character: char) -> char {
 }
 
 /// The answers' headings, as the header has them already or else their own.
-fn answer_headings(columns: &Columns, header: &[Cow<[u8]>]) -> [String; HEADINGS.len()] {
-    std::array::from_fn(|number| match columns.place_of(Heading::Answer(number)) {
-        Some(place) => String::from_utf8_lossy(&header[place]).into_owned(),
-        None => HEADINGS[number].to_owned(),
-    })
+fn answer_headings(columns: &Columns, header: &[Cow<[u8]>]) -> Vec<String> {
+    let answers = columns.schema.answers.iter().enumerate();
+    answers
+        .map(
+            |(number, answer)| match columns.place_of(Heading::Answer(number)) {
+                Some(place) => String::from_utf8_lossy(&header[place]).into_owned(),
+                None => answer.heading.to_owned(),
+            },
+        )
+        .collect()
 }
 
 /// The heading of a column in a sheet that has none.
-fn heading(column: Column) -> &'static str {
+fn heading(column: Column, schema: &Schema) -> &'static str {
     match column {
-        Column::Holds(Heading::Member) => "member",
-        Column::Holds(Heading::Cell(number)) => {
-            words::cell_words(number).map_or("", |cell| cell.name)
-        }
-        Column::Holds(Heading::Answer(number)) => HEADINGS[number],
+        Column::Holds(Heading::Member) => schema.one,
+        Column::Holds(Heading::Cell(place)) => schema.cell(place).words.name,
+        Column::Holds(Heading::Answer(number)) => schema.answers[number].heading,
         Column::Skipped | Column::Unheaded => "",
-    }
-}
-
-fn answers(judged: Result<Verdict, Refused>) -> [String; HEADINGS.len()] {
-    let none = String::new;
-    match judged {
-        Ok(verdict) => [
-            if verdict.passes { "pass" } else { "fail" }.to_owned(),
-            verdict.check.to_string(),
-            verdict.utilisation.to_string(),
-            verdict.count.to_string(),
-            none(),
-            none(),
-        ],
-        Err(refused) => {
-            let (refusal, cell) = match refused {
-                Refused::ByAddin(refusal) => (refusal.number.to_string(), refusal.cell.to_string()),
-                Refused::OpenQuote => ("open quote".to_owned(), none()),
-                Refused::ExtraColumn => ("extra column".to_owned(), none()),
-            };
-            ["refused".to_owned(), none(), none(), none(), refusal, cell]
-        }
     }
 }

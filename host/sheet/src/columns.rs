@@ -1,21 +1,33 @@
 //! What each column of a sheet holds, its separator and its decimal mark.
-use crate::answer_columns::HEADINGS;
 use crate::fields::{self, Fields};
 use crate::headings::{self, Heading, Meaning};
+use crate::members;
 use crate::number::{self, DecimalMark, Typed};
-use lvl_addin::row::CELLS;
+use crate::schema::Schema;
 use std::borrow::Cow;
 
-/// A line with so many numbers in the columns of cells is a member's: the least that is filled has nine.
+/// A line with so many numbers in the columns of cells is a member's: the least that is filled has nine, a floor beam eight.
 pub const NUMBERS_OF_A_MEMBER: usize = 5;
 
 /// How a person wants the columns to be taken.
-#[derive(Clone, Debug, Default)]
+#[derive(Clone, Debug)]
 pub struct ColumnOptions {
+    /// What the sheet lists.
+    pub schema: &'static Schema,
     /// By the order of the cells, whatever their headings say.
     pub by_position: bool,
     /// Headings of columns that are passed over.
     pub skip: Vec<String>,
+}
+
+impl Default for ColumnOptions {
+    fn default() -> ColumnOptions {
+        ColumnOptions {
+            schema: members::schema(),
+            by_position: false,
+            skip: Vec::new(),
+        }
+    }
 }
 
 #[derive(Clone, Copy, Debug, PartialEq, Eq)]
@@ -39,6 +51,7 @@ pub enum Basis {
 
 #[derive(Debug)]
 pub struct Columns {
+    pub schema: &'static Schema,
     pub separator: u8,
     pub basis: Basis,
     /// Fields further right are as good as unheaded.
@@ -46,48 +59,65 @@ pub struct Columns {
 }
 
 impl Columns {
-    pub fn new(separator: u8, basis: Basis, columns: Vec<Column>) -> Columns {
+    pub fn new(
+        schema: &'static Schema,
+        separator: u8,
+        basis: Basis,
+        columns: Vec<Column>,
+    ) -> Columns {
         Columns {
+            schema,
             separator,
             basis,
             columns,
         }
     }
 
-    /// The names, unless the first column is the kind's, the cells in their order, and an earlier run's answers.
-    pub fn in_order_below(header: &[u8], separator: u8, basis: Basis) -> Columns {
+    /// The names, unless the first column is the first cell's, the cells in their order, and an earlier run's answers.
+    pub fn in_order_below(
+        header: &[u8],
+        schema: &'static Schema,
+        separator: u8,
+        basis: Basis,
+    ) -> Columns {
         let first = Fields::of(header, separator).next().unwrap_or_default();
         let first = String::from_utf8_lossy(&first);
-        let is_kind = headings::read(&first) == Meaning::Known(Heading::Cell(1))
-            || first.to_lowercase().contains("kind");
-        let mut columns = Columns::in_order(separator, basis, !is_kind);
+        let says_cell = |part: &&str| first.to_lowercase().contains(part);
+        let is_cell = headings::read_in(schema, &first) == Meaning::Known(Heading::Cell(1))
+            || schema.in_first_cell.iter().any(says_cell);
+        let mut columns = Columns::in_order(schema, separator, basis, !is_cell);
         if columns.are_answers_headed(header) {
-            let answers = (0..HEADINGS.len()).map(|answer| Column::Holds(Heading::Answer(answer)));
-            columns.columns.extend(answers);
+            let answers = (0..schema.answers.len()).map(Heading::Answer);
+            columns.columns.extend(answers.map(Column::Holds));
         }
         columns
     }
 
     /// Without a header: the names, unless the first row begins with a number or nothing, and the cells.
-    pub fn in_order_from(row: &[u8], separator: u8, basis: Basis) -> Columns {
+    pub fn in_order_from(
+        row: &[u8],
+        schema: &'static Schema,
+        separator: u8,
+        basis: Basis,
+    ) -> Columns {
         let first = Fields::of(row, separator).next().unwrap_or_default();
         let named = !is_number(&first, separator) && !fields::is_empty(&first);
-        Columns::in_order(separator, basis, named)
+        Columns::in_order(schema, separator, basis, named)
     }
 
-    fn in_order(separator: u8, basis: Basis, named: bool) -> Columns {
+    fn in_order(schema: &'static Schema, separator: u8, basis: Basis, named: bool) -> Columns {
         let member = named.then_some(Heading::Member);
-        let cells = (1..=CELLS).map(Heading::Cell);
+        let cells = (1..=schema.cells.len()).map(Heading::Cell);
         let columns = member.into_iter().chain(cells).map(Column::Holds).collect();
-        Columns::new(separator, basis, columns)
+        Columns::new(schema, separator, basis, columns)
     }
 
     fn are_answers_headed(&self, header: &[u8]) -> bool {
         let mut after_cells = Fields::of(header, self.separator).skip(self.width());
-        HEADINGS.iter().all(|heading| {
+        self.schema.answers.iter().all(|answer| {
             after_cells
                 .next()
-                .is_some_and(|field| field.as_ref() == heading.as_bytes())
+                .is_some_and(|field| field.as_ref() == answer.heading.as_bytes())
         })
     }
 

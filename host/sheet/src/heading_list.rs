@@ -1,6 +1,6 @@
 //! The headings that are known, as a person reads them.
-use crate::answer_columns::HEADINGS;
-use crate::heading_names::{self, CellNames};
+use crate::heading_names::CellNames;
+use crate::schema::Schema;
 use crate::text::width;
 
 /// How wide the list is.
@@ -9,21 +9,19 @@ const WIDTH: usize = 80;
 /// How far its first column reaches.
 const INDENT: usize = 10;
 
-/// A paragraph for the members' names, for each cell and for the answers.
-pub fn all() -> String {
-    let cells = (1..)
-        .zip(&heading_names::CELLS)
-        .map(|(number, names): (usize, _)| paragraph(&number.to_string(), &listed(names)));
-    let texts = |names: &[&str]| {
-        names
-            .iter()
-            .map(|name| name.to_string())
-            .collect::<Vec<_>>()
-    };
-    [paragraph("member", &texts(heading_names::MEMBER))]
+/// A paragraph for the names, for each cell and for the answers.
+pub fn all(schema: &Schema) -> String {
+    let cells = schema
+        .cells
+        .iter()
+        .map(|cell| paragraph(&cell.label(), &listed(cell.names)));
+    let names = schema.names.iter().map(|name| name.to_string());
+    let answers = schema.answers.iter();
+    let answers = answers.map(|answer| answer.heading.to_owned());
+    [paragraph(schema.one, &names.collect::<Vec<_>>())]
         .into_iter()
         .chain(cells)
-        .chain([paragraph("answers", &texts(&HEADINGS))])
+        .chain([paragraph("answers", &answers.collect::<Vec<_>>())])
         .collect()
 }
 

@@ -3,6 +3,7 @@
 //! A word that may mean two things names a cell only beside its symbol, as "force N", or none, as "length" and "row".
 use lvl_addin::row;
 
+/// The column of names.
 pub const MEMBER: &[&str] = &[
     "member",
     "name",
@@ -17,6 +18,9 @@ pub const MEMBER: &[&str] = &[
     "позиция",
     "поз.",
 ];
+
+/// The column of names in a sheet of floor beams, beside those of members.
+pub const BEAM: &[&str] = &["beam", "floor beam", "балка", "балка перекрытия"];
 
 /// The names of a cell.
 pub struct CellNames {
@@ -43,7 +47,7 @@ const fn words(words: &'static [&'static str]) -> CellNames {
     symbol("", words, &[])
 }
 
-/// Cell 1 first.
+/// The cells of a row, cell 1 first.
 #[rustfmt::skip]
 pub const CELLS: [CellNames; row::CELLS] = [
     words(&["kind", "type", "вид", "тип", "вид элемента", "тип элемента", "вид работы", "напряжённое состояние"]),
@@ -75,6 +79,22 @@ pub const CELLS: [CellNames; row::CELLS] = [
     symbol("kb", &[], &["Table 18", "коэффициент", "изгиб нагеля"]),
     symbol("ke", &[], &["Table 18", "коэффициент", "изгиб нагеля"]),
     symbol("km", &["наибольший изгиб нагеля"], &["Table 18", "коэффициент"]),
+];
+
+/// The loads of a floor beam and its span. A permanent load or a long-term one alone, and an imposed load, which may have
+/// a long-term part, name nothing: more than the regime's 80 percent would be taken for less.
+#[rustfmt::skip]
+pub const FLOOR: [CellNames; 3] = [
+    words(&["permanent and long-term load", "permanent and long-term loads", "permanent and long-term",
+            "permanent and long term load", "permanent + long-term load", "permanent + long-term",
+            "постоянная и длительная нагрузка", "постоянная и длительная", "постоянные и длительные нагрузки",
+            "постоянные и длительные", "постоянная и временная длительная нагрузка",
+            "постоянная и временная длительная", "постоянная + длительная нагрузка", "постоянная + длительная"]),
+    words(&["remaining load", "remaining loads", "remaining", "short-term load", "short-term loads", "short term load",
+            "остальная нагрузка", "остальные нагрузки", "остальная", "кратковременная нагрузка",
+            "кратковременные нагрузки", "кратковременная", "кратковременная остальная нагрузка",
+            "остальная кратковременная нагрузка"]),
+    symbol("L", &["span", "design span", "effective span", "пролёт", "расчётный пролёт", "пролёт балки"], &[]),
 ];
 
 impl CellNames {

@@ -3,17 +3,15 @@
 //! A heading is a name, or a name and the unit of what it names. Case, spaces and brackets do not count, and letters
 //! that look alike in the Cyrillic and the Latin alphabet are one: nobody sees in which of them М, а or кс was typed.
 //! Every other sign counts: N+, N* or 2b are not N or b.
-use crate::answer_columns::HEADINGS;
+use crate::schema::Schema;
 use crate::text::is_unseen;
-use crate::{heading_names, units, words};
-use std::collections::HashMap;
-use std::sync::LazyLock;
+use crate::{members, units};
 
 #[derive(Clone, Copy, Debug, PartialEq, Eq, Hash)]
 pub enum Heading {
-    /// The member's name.
+    /// The name of a member or beam.
     Member,
-    /// A cell by its number, from 1.
+    /// A cell by its place, from 1: a member's has this number.
     Cell(usize),
     /// One of the answers of an earlier run, from 0.
     Answer(usize),
@@ -32,22 +30,34 @@ pub enum Meaning {
 /// No heading has more words than this.
 const MOST_WORDS: usize = 16;
 
-/// All names that are known, with what they name.
+/// All names that are known in a sheet of members, with what they name.
 pub fn known() -> impl Iterator<Item = (Heading, String)> {
-    let members = heading_names::MEMBER
-        .iter()
-        .map(|name| (Heading::Member, name.to_string()));
-    let cells = (1..).zip(&heading_names::CELLS).flat_map(|(cell, names)| {
-        let names = names.all().into_iter();
-        names.map(move |name| (Heading::Cell(cell), name))
-    });
-    let answers = (0..)
-        .zip(HEADINGS)
-        .map(|(answer, name)| (Heading::Answer(answer), name.to_owned()));
-    members.chain(cells).chain(answers)
+    known_in(members::schema())
 }
 
+/// All names that are known in such a sheet, with what they name.
+pub fn known_in(schema: &Schema) -> impl Iterator<Item = (Heading, String)> + '_ {
+    let names = schema
+        .names
+        .iter()
+        .map(|name| (Heading::Member, name.to_string()));
+    let cells = (1..).zip(&schema.cells).flat_map(|(place, cell)| {
+        let names = cell.names.all().into_iter();
+        names.map(move |name| (Heading::Cell(place), name))
+    });
+    let answers = (0..)
+        .zip(&schema.answers)
+        .map(|(number, answer)| (Heading::Answer(number), answer.heading.to_owned()));
+    names.chain(cells).chain(answers)
+}
+
+/// What a heading's text is in a sheet of members.
 pub fn read(text: &str) -> Meaning {
+    read_in(members::schema(), text)
+}
+
+/// What a heading's text is in such a sheet.
+pub fn read_in(schema: &Schema, text: &str) -> Meaning {
     let words = words_of(text);
     if text
         .chars()
@@ -60,7 +70,7 @@ pub fn read(text: &str) -> Meaning {
     }
     (1..=words.len())
         .rev()
-        .find_map(|at| named(&words[..at], &words[at..]))
+        .find_map(|at| named(schema, &words[..at], &words[at..]))
         .unwrap_or(Meaning::Unknown)
 }
 
@@ -70,23 +80,18 @@ pub fn key(text: &str) -> String {
 }
 
 /// What a name and the unit after it mean, if they mean anything.
-fn named(name: &[String], unit: &[String]) -> Option<Meaning> {
-    static BY_KEY: LazyLock<HashMap<String, Heading>> = LazyLock::new(|| {
-        known()
-            .map(|(heading, name)| (key(&name), heading))
-            .collect()
-    });
-    let heading = *BY_KEY.get(&name_key(name))?;
+fn named(schema: &Schema, name: &[String], unit: &[String]) -> Option<Meaning> {
+    let heading = schema.heading(&name_key(name))?;
     if unit.is_empty() {
         return Some(Meaning::Known(heading));
     }
-    let Heading::Cell(cell) = heading else {
+    let Heading::Cell(place) = heading else {
         return None;
     };
-    if units::is(words::cell_words(cell)?.unit, unit) {
+    if units::is(schema.cell(place).words.unit, unit) {
         return Some(Meaning::Known(heading));
     }
-    units::is_any(unit).then_some(Meaning::OtherUnit(cell))
+    units::is_any(unit).then_some(Meaning::OtherUnit(place))
 }
 
 /// A heading's words in small letters, without what only parts them, and without the apostrophe that keeps a formula text.

@@ -1,9 +1,11 @@
-//! A sheet of members, judged or packed row by row. All judgement is the add-in's; what stands here reads and writes.
+//! A sheet of members or floor beams, judged or packed row by row. All judgement is the add-in's; what stands here reads and writes.
 
 pub mod answer_columns;
+pub mod answers;
 pub mod columns;
 pub mod encoding;
 pub mod fields;
+pub mod floor_beams;
 pub mod formulas;
 pub mod headed_columns;
 pub mod header;
@@ -11,7 +13,10 @@ pub mod heading_list;
 pub mod heading_names;
 pub mod headings;
 pub mod input;
+pub mod judgement;
 pub mod lines;
+pub mod load_reasons;
+pub mod members;
 pub mod notes;
 pub mod number;
 pub mod opening;
@@ -21,6 +26,7 @@ pub mod packed_rows;
 pub mod progress;
 pub mod reasons;
 pub mod row;
+pub mod schema;
 pub mod separator;
 pub mod table;
 pub mod tally;

@@ -5,13 +5,14 @@
 //! down that members would be lost, it cannot be told which of the quotes is the mistake, and the line says so.
 use crate::columns::{is_number, Columns, NUMBERS_OF_A_MEMBER};
 use crate::header;
+use crate::schema::Schema;
 use std::slice;
 
 /// What is known of a line's fields before it is read.
 #[derive(Clone, Copy)]
 pub enum Shape<'a> {
-    /// They are separated by one of these.
-    Separated(&'a [u8]),
+    /// They are separated by one of these, and such a sheet's.
+    Separated(&'a [u8], &'a Schema),
     /// They stand in these columns.
     In(&'a Columns),
 }
@@ -72,15 +73,22 @@ impl<'a> Lines<'a> {
 impl Shape<'_> {
     fn separators(&self) -> &[u8] {
         match self {
-            Shape::Separated(separators) => separators,
+            Shape::Separated(separators, _) => separators,
             Shape::In(columns) => slice::from_ref(&columns.separator),
+        }
+    }
+
+    fn schema(&self) -> &Schema {
+        match self {
+            Shape::Separated(_, schema) => schema,
+            Shape::In(columns) => columns.schema,
         }
     }
 
     /// Whether the field at this place may hold line breaks: that of a cell may not.
     fn is_text(&self, place: usize) -> bool {
         match self {
-            Shape::Separated(_) => true,
+            Shape::Separated(..) => true,
             Shape::In(columns) => place < columns.width() && !columns.is_cell(place),
         }
     }
@@ -91,10 +99,11 @@ impl Shape<'_> {
             return None;
         };
         let separators = slice::from_ref(&columns.separator);
-        if !header::is_open(&text[..end_of_line(text, 0)], separators) {
+        let first_line = &text[..end_of_line(text, 0)];
+        if !header::is_open(first_line, separators, columns.schema) {
             return None;
         }
-        let end = end_of_fields(text, Shape::Separated(separators));
+        let end = end_of_fields(text, Shape::Separated(separators, columns.schema));
         header::is_repeated(&text[..end.at], columns).then_some(end)
     }
 
@@ -102,7 +111,7 @@ impl Shape<'_> {
     fn is_member_or_header(&self, place: usize, line: &[u8]) -> bool {
         let numbers = match self {
             Shape::In(columns) => columns.numbers_from(place, line),
-            Shape::Separated(separators) => {
+            Shape::Separated(separators, _) => {
                 let counts = separators.iter().map(|separator| {
                     let fields = line.split(|byte| byte == separator);
                     fields.filter(|field| is_number(field, *separator)).count()
@@ -110,7 +119,7 @@ impl Shape<'_> {
                 counts.max().unwrap_or(0)
             }
         };
-        numbers >= NUMBERS_OF_A_MEMBER || header::is_certain(line, self.separators())
+        numbers >= NUMBERS_OF_A_MEMBER || header::is_certain(line, self.separators(), self.schema())
     }
 
     /// Whether the line in which a field at this place is closed is a member by itself, more of whose numbers stand in columns of

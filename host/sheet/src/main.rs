@@ -1,4 +1,5 @@
-//! `sheet FILE.csv`: the verdicts on a sheet of members, as a table or as columns beside the input, or its rows packed.
+//! `sheet FILE.csv`: the verdicts on a sheet of members or floor beams, as a table or as columns beside the input, or its
+//! rows packed.
 use lvl_sheet::answer_columns::{AnswerColumns, Lettering};
 use lvl_sheet::encoding::Encoding;
 use lvl_sheet::input::{self, Input};
@@ -94,7 +95,7 @@ fn gone_through(bytes: &[u8], request: &Request) -> Result<(Tally, Vec<u8>), Str
     let columns = &request.columns;
     let progress = &mut Progress::new(io::stderr().is_terminal());
     let answers = match request.form {
-        Form::Table => go_through(&text, columns, Table::default(), progress),
+        Form::Table => go_through(&text, columns, Table::new(columns.schema), progress),
         Form::Csv => {
             let report = AnswerColumns::new(lettering(encoding, &request.destination));
             go_through(&text, columns, report, progress)

@@ -2,6 +2,7 @@
 use crate::columns::{is_number, Basis, ColumnOptions, Columns, NUMBERS_OF_A_MEMBER};
 use crate::fields::{self, Fields, SEPARATORS};
 use crate::lines::{Line, Lines, Shape};
+use crate::schema::{self, Schema};
 use crate::separator;
 use crate::text::shown;
 use crate::{headed_columns, header, unit_lines};
@@ -46,7 +47,7 @@ pub struct Opening<'a> {
 impl<'a> Opening<'a> {
     /// What the first lines of a text say; nothing where all are blank, an error where the columns cannot be told.
     pub fn of(text: &'a [u8], options: &ColumnOptions) -> Result<Option<Opening<'a>>, String> {
-        let lines = read_ahead(Lines::of(text), &SEPARATORS);
+        let lines = read_ahead(Lines::of(text), &SEPARATORS, options.schema);
         let Some(first) = lines.iter().position(|ahead| !ahead.is_blank()) else {
             return match lines.len() {
                 READ_AHEAD => Err(format!("the first {READ_AHEAD} lines are blank")),
@@ -57,7 +58,7 @@ impl<'a> Opening<'a> {
         let Some(separator) = hint else {
             return below(&[], &lines, &SEPARATORS, options).map(Some);
         };
-        let rest = read_ahead(lines[first].after, &[separator]);
+        let rest = read_ahead(lines[first].after, &[separator], options.schema);
         let mut opening = below(&lines[..=first], &rest, &[separator], options)?;
         let quoted = quoted(&lines[first].line);
         let note = format!("{quoted} sets the separator and is passed over");
@@ -67,12 +68,12 @@ impl<'a> Opening<'a> {
 }
 
 /// Lines from here on, with enough content among them to find a header.
-fn read_ahead<'a>(mut lines: Lines<'a>, separators: &[u8]) -> Vec<Ahead<'a>> {
+fn read_ahead<'a>(mut lines: Lines<'a>, separators: &[u8], schema: &Schema) -> Vec<Ahead<'a>> {
     let mut read = Vec::new();
     let mut filled = 0;
     while filled < LOOKED_AT && read.len() < READ_AHEAD {
         let from = lines;
-        let Some(line) = lines.next_line(Shape::Separated(separators)) else {
+        let Some(line) = lines.next_line(Shape::Separated(separators, schema)) else {
             break;
         };
         let ahead = Ahead {
@@ -99,7 +100,7 @@ fn below<'a>(
     separators: &[u8],
     options: &ColumnOptions,
 ) -> Result<Opening<'a>, String> {
-    let mut opening = match header_among(lines, separators) {
+    let mut opening = match header_among(lines, separators, options.schema) {
         Some((at, separator)) => below_header(lines, at, separator, options)?,
         None => without_header(lines, separators, options)?,
     };
@@ -109,9 +110,9 @@ fn below<'a>(
 }
 
 /// The place and separator of the line with the most known headings, the first of them where there are several.
-fn header_among(lines: &[Ahead], separators: &[u8]) -> Option<(usize, u8)> {
+fn header_among(lines: &[Ahead], separators: &[u8], schema: &Schema) -> Option<(usize, u8)> {
     let headers = lines.iter().enumerate().filter_map(|(at, ahead)| {
-        let header = header::found_in(ahead.line.text, separators)?;
+        let header = header::found_in(ahead.line.text, separators, schema)?;
         Some((at, header))
     });
     let (at, header) = headers.rev().max_by_key(|(_, header)| header.known)?;
@@ -130,8 +131,8 @@ fn below_header<'a>(
         ..
     } = lines[at];
     let columns = match options.by_position {
-        true => Columns::in_order_below(header.text, separator, Basis::Asked),
-        false => headed_columns::columns(header.text, separator, &options.skip)
+        true => Columns::in_order_below(header.text, options.schema, separator, Basis::Asked),
+        false => headed_columns::columns(header.text, separator, options)
             .map_err(|problem| format!("line {}, the header: {problem}", header.number))?,
     };
     let titles = lines[..at].iter().filter(|ahead| !ahead.is_blank());
@@ -185,7 +186,8 @@ fn without_header<'a>(
     let blank = lines.iter().take_while(|ahead| ahead.is_blank()).count();
     let (above, rows) = lines.split_at(blank);
     if !options.by_position {
-        refuse_spoilt_header(rows, separators)?;
+        refuse_spoilt_header(rows, separators, options.schema)?;
+        refuse_header_of_another(rows, separators)?;
     }
     if let Some(heading) = options.skip.first() {
         return Err(format!(
@@ -204,7 +206,7 @@ fn without_header<'a>(
         false => (Basis::NoHeader, first.map(|ahead| no_header(&ahead.line))),
     };
     Ok(Opening {
-        columns: Columns::in_order_from(text, separator, basis),
+        columns: Columns::in_order_from(text, options.schema, separator, basis),
         above: above.iter().map(|ahead| ahead.line).collect(),
         header: None,
         rows: first.map_or(Lines::of(b""), |ahead| ahead.from),
@@ -213,12 +215,29 @@ fn without_header<'a>(
 }
 
 /// A header with a number or a stray quote in it is no header, but its order may well be another than that of the cells.
-fn refuse_spoilt_header(rows: &[Ahead], separators: &[u8]) -> Result<(), String> {
-    let spoilt = |ahead: &&Ahead| header::is_spoilt(ahead.line.text, separators);
+fn refuse_spoilt_header(rows: &[Ahead], separators: &[u8], schema: &Schema) -> Result<(), String> {
+    let spoilt = |ahead: &&Ahead| header::is_spoilt(ahead.line.text, separators, schema);
     match rows.iter().find(spoilt) {
         Some(ahead) => Err(format!(
             "{} looks like a header, but has a number or a quote that is not closed",
             quoted(&ahead.line)
+        )),
+        None => Ok(()),
+    }
+}
+
+/// A header of floor beams among members, or the other way round: what stands below it is no row.
+fn refuse_header_of_another(rows: &[Ahead], separators: &[u8]) -> Result<(), String> {
+    let headed = rows.iter().find_map(|ahead| {
+        let is_header = |schema: &&Schema| header::is_clear(ahead.line.text, separators, schema);
+        let schema = schema::all().into_iter().find(is_header)?;
+        Some((ahead, schema))
+    });
+    match headed {
+        Some((ahead, schema)) => Err(format!(
+            "{} is the header of another sheet: {}",
+            quoted(&ahead.line),
+            schema.asked_for
         )),
         None => Ok(()),
     }

@@ -2,9 +2,9 @@
 use crate::columns::ColumnOptions;
 use crate::input::Source;
 use crate::opening::LOOKED_AT;
-use crate::text::shown;
-use crate::{heading_list, words};
-use lvl_addin::row::CELLS;
+use crate::schema::{Cell, Schema};
+use crate::text::{shown, width};
+use crate::{floor_beams, heading_list, members};
 use std::ffi::OsString;
 use std::io::{self, IsTerminal};
 use std::path::PathBuf;
@@ -35,8 +35,9 @@ pub enum Form {
     Packed,
 }
 
-const USAGE: &str =
-    "usage: sheet [--csv | --pack] [-o FILE] [--skip HEADING]... [--by-position] FILE.csv
+const USAGE: &str = "\
+usage: sheet [--floor] [--csv | --pack] [-o FILE] [--skip HEADING]...
+             [--by-position] FILE.csv
        (- for standard input, --help for more)";
 
 /// How much of an argument is quoted.
@@ -46,6 +47,7 @@ const QUOTED: usize = 60;
 #[derive(Default)]
 struct Sorted {
     help: bool,
+    floor: bool,
     forms: Vec<Form>,
     destinations: Vec<Destination>,
     columns: ColumnOptions,
@@ -70,6 +72,7 @@ fn sort(mut arguments: impl Iterator<Item = OsString>) -> Result<Sorted, String>
                 sorted.sources.extend(files.map(Source::File));
             }
             Some("--help" | "-h") => sorted.help = true,
+            Some("--floor") => sorted.floor = true,
             Some("--csv") => sorted.forms.push(Form::Csv),
             Some("--pack") => sorted.forms.push(Form::Packed),
             Some("-o") => sorted.destinations.push(destination(arguments.next())?),
@@ -88,6 +91,9 @@ fn sort(mut arguments: impl Iterator<Item = OsString>) -> Result<Sorted, String>
 
 fn request(mut sorted: Sorted) -> Result<Request, String> {
     sorted.forms.dedup();
+    if sorted.floor {
+        sorted.columns.schema = floor_beams::schema();
+    }
     let Some(source) = sorted.sources.pop() else {
         return Err(USAGE.to_owned());
     };
@@ -108,6 +114,9 @@ fn request(mut sorted: Sorted) -> Result<Request, String> {
     }
     if !sorted.destinations.is_empty() {
         return wrong("one -o FILE at a time");
+    }
+    if sorted.floor && request.form == Form::Packed {
+        return wrong("--pack packs rows, and a floor beam is no row: it has loads and a span in place of cells");
     }
     if request.columns.by_position && !request.columns.skip.is_empty() {
         return wrong("--skip goes by headings, and --by-position passes them by");
@@ -149,27 +158,43 @@ fn heading(argument: Option<OsString>) -> Result<String, String> {
 }
 
 pub fn help() -> String {
-    let cells: String = (1..)
-        .zip(words::cells())
-        .map(|(number, cell)| {
-            format!(
-                "  {number:>2}  {:<20}  {:<20}  {}\n",
-                cell.name, cell.unit, cell.range
-            )
-        })
-        .collect();
-    HELP.replace("{cells}\n", &cells)
-        .replace("{headings}\n", &heading_list::all())
-        .replace("{last}", &CELLS.to_string())
+    let [members, beams] = [members::schema(), floor_beams::schema()];
+    HELP.replace("{cells}\n", &cell_list(members))
+        .replace("{headings}\n", &heading_list::all(members))
+        .replace("{last}", &members.cells.len().to_string())
+        .replace("{floor cells}\n", &cell_list(beams))
+        .replace("{floor headings}\n", &heading_list::all(beams))
         .replace("{looked_at}", &LOOKED_AT.to_string())
 }
 
-const HELP: &str = "\
-Checks LVL members and steel dowel joints to SP 64.13330, one member a row.
+/// The cells in their order, a line each.
+fn cell_list(schema: &Schema) -> String {
+    let widest = |text: fn(&Cell) -> &'static str| {
+        let texts = schema.cells.iter().map(text);
+        texts.map(width).max().unwrap_or(0)
+    };
+    let names = widest(|cell| cell.words.name);
+    let units = widest(|cell| cell.words.unit);
+    let line = |cell: &Cell| {
+        let (label, words) = (cell.label(), cell.words);
+        format!(
+            "  {label:>2}  {:<names$}  {:<units$}  {}\n",
+            words.name, words.unit, words.range
+        )
+    };
+    schema.cells.iter().map(line).collect()
+}
 
-usage: sheet [--csv | --pack] [-o FILE] [--skip HEADING]... [--by-position] FILE.csv
+const HELP: &str = "\
+Checks LVL members and steel dowel joints to SP 64.13330, one member a row, or
+floor beams by their loads, one beam a row.
+
+usage: sheet [--floor] [--csv | --pack] [-o FILE] [--skip HEADING]...
+             [--by-position] FILE.csv
        - in place of FILE.csv reads standard input
 
+  --floor         the sheet lists floor beams with their loads and spans, as the
+                  section on floor beams says
   --csv           writes the sheet itself, with the answers in columns after its
                   last one, in place of the table; the count of rows goes to the
                   error output
@@ -228,6 +253,28 @@ that a spreadsheet would compute (=, +, -, @ first) gets an apostrophe before it
 The table. Utilisation is rounded up to a tenth of a percent, so that a pass is at
 most 100.0 and a fail above it. Checks of layout, slenderness and joint length are
 yes or no and have no figure. All judgement is the proved add-in's.
+
+Floor beams, with --floor: one simply supported beam a row, with loads and a span
+in place of a moment and a shear force. All that is said above holds, but for
+--pack, since a floor beam is no row of cells. It has these cells, in this order;
+the last five are a member's, under their numbers:
+
+{floor cells}
+
+The total load q, both loads together, has to be 100 to 100000 N/m. The regime is Б
+where the permanent and long-term load is more than 80 percent of q, otherwise В.
+M = q × span² / 8000 in N·mm and Q = q × span / 2000 in N, both rounded up, are
+checked as for a member of kind 2. A load, q or a span that is blank, no whole
+number or outside its range is refusal 8, before all others. The table shows q, the
+regime, and M and Q in kN·m and kN, rounded up to two decimals; --csv has M and Q
+whole, in N·mm and N.
+
+Loads are in N/m alone: a heading or a line that speaks of kN/m or кгс/м stops the
+sheet. Where the order decides, the first column holds the beams' names, unless it
+begins with a number or its heading has \"load\" or \"нагрузк\" in it. Headings
+that are known with --floor:
+
+{floor headings}
 
 Exit code: 0 every row passes, or is packed; 1 a row fails or is refused; 2 the
 sheet cannot be read, has no rows, or its answers cannot be written.

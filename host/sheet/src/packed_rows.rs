@@ -1,5 +1,6 @@
-//! The rows packed, one after another, as the program `schedule` and other hosts read them.
-use crate::row::{Outcome, Refused, SheetRow};
+//! The rows of members packed, one after another, as the program `schedule` and other hosts read them.
+use crate::judgement::Refused;
+use crate::row::{Outcome, SheetRow};
 use crate::text::shown;
 use crate::{notes, reasons, Report};
 use lvl_addin::entry;

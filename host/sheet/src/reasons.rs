@@ -1,11 +1,11 @@
 //! Why a row is refused, in words: the refusal's number, its cell, and what was typed there.
 use crate::columns::Basis;
+use crate::judgement::Refused;
 use crate::number::Typed;
-use crate::row::{Refused, SheetRow};
+use crate::row::SheetRow;
 use crate::text::shown;
-use crate::words;
+use crate::words::{self, CellWords};
 use lvl_addin::answer::Refusal;
-use lvl_addin::row::CELLS;
 
 /// The greatest number that a cell can hold.
 const GREATEST: f64 = 17_179_869_183.0;
@@ -33,19 +33,20 @@ fn open_quote(row: &SheetRow) -> String {
 /// "cell 9 moment M: blank, but kind 2 needs it".
 fn of_addin(refusal: Refusal, row: &SheetRow) -> String {
     let number = refusal.cell as usize;
-    let Some(words) = words::cell_words(number) else {
-        return format!("refusal {} of the whole row", refusal.number);
+    let schema = row.columns.schema;
+    let Some((place, cell)) = schema.numbered(number) else {
+        return (schema.whole_row_reason)(refusal, row);
     };
-    let typed = row.cell(number);
-    let text = shown(&row.text(number), QUOTED);
+    let typed = row.cell(place);
+    let text = shown_cell(row, place);
     let reason = match refusal.number {
         1 => unreadable(typed, &text),
-        2 => misfilled(number, row),
+        2 => misfilled(number, typed, row.kind()),
         3 => unknown(number, &text),
-        4 => format!("{text} is outside {}", range(words)),
+        4 => format!("{text} is outside {}", range(cell.words)),
         other => format!("refusal {other}"),
     };
-    format!("cell {number} {}: {reason}", words.name)
+    format!("cell {number} {}: {reason}", cell.words.name)
 }
 
 /// For a row with something in a column that holds nothing known.
@@ -57,13 +58,19 @@ fn extra_column(row: &SheetRow) -> String {
     match row.columns.basis {
         Basis::Headings => format!("column {column}: \"{text}\" stands below no heading"),
         Basis::NoHeader | Basis::Asked => {
-            let last = words::cell_words(CELLS).map_or("", |words| words.name);
-            format!("column {column}: \"{text}\" stands past the last cell, {CELLS} {last}")
+            let last = row.columns.schema.last_cell();
+            let (number, name) = (last.label(), last.words.name);
+            format!("column {column}: \"{text}\" stands past the last cell, {number} {name}")
         }
     }
 }
 
-fn unreadable(typed: Typed, text: &str) -> String {
+/// As much of a cell's text as is quoted.
+pub fn shown_cell(row: &SheetRow, place: usize) -> String {
+    shown(&row.text(place), QUOTED)
+}
+
+pub fn unreadable(typed: Typed, text: &str) -> String {
     match typed {
         Typed::Text => format!("\"{text}\" is not a number"),
         Typed::Unclear => format!("\"{text}\" can be read in two ways: leave the mark out"),
@@ -74,9 +81,8 @@ fn unreadable(typed: Typed, text: &str) -> String {
     }
 }
 
-fn misfilled(number: usize, row: &SheetRow) -> String {
-    let kind = row.cell(1).whole();
-    match (row.cell(number), kind) {
+fn misfilled(number: usize, typed: Typed, kind: Option<u64>) -> String {
+    match (typed, kind) {
         (Typed::Blank, None) => "blank".to_owned(),
         (Typed::Blank, Some(_)) if words::JOINT.contains(&number) => {
             "blank, but a joint is begun".to_owned()
@@ -95,7 +101,8 @@ fn unknown(number: usize, text: &str) -> String {
     }
 }
 
-fn range(words: &words::CellWords) -> String {
+/// What may stand in a cell.
+pub fn range(words: &CellWords) -> String {
     match words.unit {
         "" => words.range.to_owned(),
         unit => format!("{} {unit}", words.range),

@@ -2,11 +2,12 @@
 use crate::columns::{typed, Column, Columns};
 use crate::fields::{self, Fields};
 use crate::headings::Heading;
+use crate::judgement::{Judged, Refused};
 use crate::lines::Line;
 use crate::number::Typed;
-use lvl_addin::answer::{Refusal, Verdict};
+use crate::words::CellWords;
 use lvl_addin::entry;
-use lvl_addin::row::{HostRow, CELLS};
+use lvl_addin::row::HostRow;
 use std::borrow::Cow;
 
 pub struct SheetRow<'a> {
@@ -16,7 +17,8 @@ pub struct SheetRow<'a> {
     pub fields: Vec<Cow<'a, [u8]>>,
     /// The fields further right.
     pub extra: Fields<'a>,
-    pub cells: [Typed; CELLS],
+    /// In the order of the schema's.
+    pub cells: Vec<Typed>,
     pub columns: &'a Columns,
 }
 
@@ -29,20 +31,10 @@ pub enum Outcome {
     Refused,
 }
 
-/// Why a row is refused.
-#[derive(Clone, Copy, Debug, PartialEq, Eq)]
-pub enum Refused {
-    ByAddin(Refusal),
-    /// Not shown to the add-in: a quote is open, so that it is not clear where its field ends.
-    OpenQuote,
-    /// Not shown to the add-in: a column that holds nothing known is filled.
-    ExtraColumn,
-}
-
 impl Outcome {
-    pub fn of_judged(judged: Result<Verdict, Refused>) -> Outcome {
+    pub fn of_judged(judged: &Judged) -> Outcome {
         match judged {
-            Ok(verdict) if verdict.passes => Outcome::Passed,
+            Ok(found) if found.verdict().passes => Outcome::Passed,
             Ok(_) => Outcome::Failed,
             Err(_) => Outcome::Refused,
         }
@@ -52,10 +44,10 @@ impl Outcome {
 impl<'a> SheetRow<'a> {
     pub fn read(line: &Line<'a>, columns: &'a Columns) -> SheetRow<'a> {
         let (fields, extra) = columns.split(line.text);
-        let mut cells = [Typed::Blank; CELLS];
+        let mut cells = vec![Typed::Blank; columns.schema.cells.len()];
         for (column, field) in columns.iter().zip(&fields) {
-            if let Column::Holds(Heading::Cell(number)) = column {
-                cells[number - 1] = typed(field, columns.separator);
+            if let Column::Holds(Heading::Cell(place)) = column {
+                cells[place - 1] = typed(field, columns.separator);
             }
         }
         SheetRow {
@@ -67,24 +59,27 @@ impl<'a> SheetRow<'a> {
         }
     }
 
-    /// The add-in's verdict.
-    pub fn judged(&self) -> Result<Verdict, Refused> {
-        entry::check(&self.host_row()?).map_err(Refused::ByAddin)
+    /// What the add-in finds.
+    pub fn judged(&self) -> Judged {
+        let judge = self.columns.schema.judge;
+        judge(&self.host_cells()?).map_err(Refused::ByAddin)
     }
 
-    /// The bytes that the add-in packs the row into.
+    /// The bytes that the add-in packs a member's row into.
     pub fn packed(&self) -> Result<Vec<u8>, Refused> {
-        entry::pack(&self.host_row()?).map_err(Refused::ByAddin)
+        let cells = self.host_cells()?;
+        let row: HostRow = cells.try_into().expect("only members are packed");
+        entry::pack(&row).map_err(Refused::ByAddin)
     }
 
     /// The cells for the add-in, unless it is not clear which are meant.
-    fn host_row(&self) -> Result<HostRow, Refused> {
+    fn host_cells(&self) -> Result<Vec<Option<f64>>, Refused> {
         if self.open_quote().is_some() {
             Err(Refused::OpenQuote)
         } else if self.extra_column().is_some() {
             Err(Refused::ExtraColumn)
         } else {
-            Ok(self.cells.map(Typed::host_cell))
+            Ok(self.cells.iter().map(|cell| cell.host_cell()).collect())
         }
     }
 
@@ -117,7 +112,7 @@ impl<'a> SheetRow<'a> {
             .map(|(place, field)| (place + 1, field))
     }
 
-    /// The member's name, or the line where it has none.
+    /// The name, or the line where there is none.
     pub fn name(&self) -> String {
         let field = self.field(Heading::Member);
         match field.filter(|field| !fields::is_empty(field)) {
@@ -126,14 +121,25 @@ impl<'a> SheetRow<'a> {
         }
     }
 
-    /// A cell as it was typed.
-    pub fn cell(&self, number: usize) -> Typed {
-        self.cells[number - 1]
+    /// A cell as it was typed, by its place.
+    pub fn cell(&self, place: usize) -> Typed {
+        self.cells[place - 1]
     }
 
-    /// A cell's text.
-    pub fn text(&self, number: usize) -> Cow<'_, str> {
-        match self.field(Heading::Cell(number)) {
+    /// The words for a cell, by its place.
+    pub fn words(&self, place: usize) -> &'static CellWords {
+        self.columns.schema.cell(place).words
+    }
+
+    /// The kind that was typed, if there is one.
+    pub fn kind(&self) -> Option<u64> {
+        let place = self.columns.schema.kind?;
+        self.cell(place).whole()
+    }
+
+    /// A cell's text, by its place.
+    pub fn text(&self, place: usize) -> Cow<'_, str> {
+        match self.field(Heading::Cell(place)) {
             Some(field) => String::from_utf8_lossy(field),
             None => Cow::Borrowed(""),
         }

@@ -1,6 +1,7 @@
 //! The table that a person reads.
-use crate::number::Typed;
-use crate::row::{Outcome, Refused, SheetRow};
+use crate::judgement::Judged;
+use crate::row::{Outcome, SheetRow};
+use crate::schema::Schema;
 use crate::text::{shown, width};
 use crate::{reasons, words, Report};
 use lvl_addin::answer::Verdict;
@@ -12,10 +13,50 @@ const NAME: usize = 40;
 const LOOKED_AT: usize = 1000;
 
 /// Stands where there is nothing to say.
-const NONE: &str = "–";
+pub const NONE: &str = "–";
 
-#[derive(Default)]
+/// A column between the names and the reasons.
+#[derive(Clone, Copy)]
+pub struct TableColumn {
+    pub heading: &'static str,
+    pub width: usize,
+    pub side: Side,
+    pub text: fn(&SheetRow, &Judged) -> String,
+}
+
+/// The side on which texts begin or end.
+#[derive(Clone, Copy)]
+pub enum Side {
+    Left,
+    Right,
+}
+
+pub const VERDICT: TableColumn = TableColumn {
+    heading: "Verdict",
+    width: 7,
+    side: Side::Left,
+    text: |_, judged| {
+        match judged {
+            Ok(found) if found.verdict().passes => "pass",
+            Ok(_) => "FAIL",
+            Err(_) => "refused",
+        }
+        .to_owned()
+    },
+};
+
+pub const UTILISATION: TableColumn = TableColumn {
+    heading: "Util. %",
+    width: 7,
+    side: Side::Right,
+    text: |_, judged| match judged {
+        Ok(found) => percent(found.verdict()),
+        Err(_) => NONE.to_owned(),
+    },
+};
+
 pub struct Table {
+    schema: &'static Schema,
     output: String,
     /// Rows whose names' width is still to be found.
     held: Vec<Line>,
@@ -24,43 +65,47 @@ pub struct Table {
 
 struct Line {
     name: String,
-    kind: &'static str,
-    size: String,
-    verdict: &'static str,
-    utilisation: String,
-    dowels: String,
+    /// A text for each column of the schema's table.
+    texts: Vec<String>,
     reason: String,
 }
 
-impl Line {
-    fn aligned(&self, name_width: usize) -> String {
-        format!(
-            "{:name_width$}  {:21}  {:11}  {:7}  {:>7}  {:>6}  {}",
-            self.name,
-            self.kind,
-            self.size,
-            self.verdict,
-            self.utilisation,
-            self.dowels,
-            self.reason
-        )
-    }
-}
-
 impl Table {
+    pub fn new(schema: &'static Schema) -> Table {
+        Table {
+            schema,
+            output: String::new(),
+            held: Vec::new(),
+            name_width: None,
+        }
+    }
+
     /// Adds what is held, its names aligned; later rows follow at once.
     fn release(&mut self) {
-        let heading = heading();
+        let heading = heading(self.schema);
         let lines = self.held.iter().chain([&heading]);
         let names = lines.map(|line| width(&line.name));
         let name_width = names.max().unwrap_or(0);
         self.name_width = Some(name_width);
-        let heading = heading.aligned(name_width);
+        let heading = self.aligned(&heading, name_width);
         self.add(&heading);
         self.add(&"─".repeat(width(&heading)));
         for line in std::mem::take(&mut self.held) {
-            self.add(&line.aligned(name_width));
+            let line = self.aligned(&line, name_width);
+            self.add(&line);
         }
+    }
+
+    fn aligned(&self, line: &Line, name_width: usize) -> String {
+        let mut text = format!("{:name_width$}  ", line.name);
+        for (column, cell) in self.schema.table.iter().zip(&line.texts) {
+            let width = column.width;
+            text += &match column.side {
+                Side::Left => format!("{cell:<width$}  "),
+                Side::Right => format!("{cell:>width$}  "),
+            };
+        }
+        text + &line.reason
     }
 
     fn add(&mut self, line: &str) {
@@ -72,9 +117,12 @@ impl Table {
 impl Report for Table {
     fn row(&mut self, row: &SheetRow) -> Outcome {
         let judged = row.judged();
-        let line = line(row, judged);
+        let line = line(row, &judged);
         match self.name_width {
-            Some(name_width) => self.add(&line.aligned(name_width)),
+            Some(name_width) => {
+                let line = self.aligned(&line, name_width);
+                self.add(&line);
+            }
             None => {
                 self.held.push(line);
                 if self.held.len() == LOOKED_AT {
@@ -82,7 +130,7 @@ impl Report for Table {
                 }
             }
         }
-        Outcome::of_judged(judged)
+        Outcome::of_judged(&judged)
     }
 
     fn finish(mut self) -> Vec<u8> {
@@ -93,47 +141,31 @@ impl Report for Table {
     }
 }
 
-fn heading() -> Line {
+fn heading(schema: &Schema) -> Line {
+    let headings = schema.table.iter().map(|column| column.heading.to_owned());
     Line {
-        name: "Member".to_owned(),
-        kind: "Kind",
-        size: "b × h, mm".to_owned(),
-        verdict: "Verdict",
-        utilisation: "Util. %".to_owned(),
-        dowels: "Dowels".to_owned(),
+        name: schema.name_heading.to_owned(),
+        texts: headings.collect(),
         reason: "Governing check, clause of SP 64".to_owned(),
     }
 }
 
-fn line(row: &SheetRow, judged: Result<Verdict, Refused>) -> Line {
-    let kind = row.cell(1).whole();
-    let (verdict, utilisation, dowels, reason) = match judged {
-        Ok(verdict) => (
-            if verdict.passes { "pass" } else { "FAIL" },
-            utilisation(&verdict),
-            dowels(verdict.count),
-            words::check(verdict.check, kind).to_owned(),
-        ),
-        Err(refused) => {
-            let reason = reasons::reason(refused, row);
-            ("refused", NONE.to_owned(), NONE.to_owned(), reason)
-        }
-    };
+fn line(row: &SheetRow, judged: &Judged) -> Line {
+    let columns = row.columns.schema.table.iter();
     Line {
         name: shown(&row.name(), NAME),
-        kind: kind.and_then(words::kind).unwrap_or(NONE),
-        size: format!("{:>4} × {:<4}", side(row.cell(6)), side(row.cell(7))),
-        verdict,
-        utilisation,
-        dowels,
-        reason,
+        texts: columns.map(|column| (column.text)(row, judged)).collect(),
+        reason: match judged {
+            Ok(found) => words::check(found.verdict().check, row.kind()).to_owned(),
+            Err(refused) => reasons::reason(*refused, row),
+        },
     }
 }
 
 /// In percent with one decimal, rounded up, so that a fail is above 100.0 and a pass is not.
 ///
 /// Checks 1 to 4 are yes or no: where one fails there is no figure.
-fn utilisation(verdict: &Verdict) -> String {
+fn percent(verdict: &Verdict) -> String {
     if verdict.check <= 4 {
         return NONE.to_owned();
     }
@@ -142,19 +174,4 @@ fn utilisation(verdict: &Verdict) -> String {
         return "> 999.9".to_owned();
     }
     format!("{}.{}", tenths / 10, tenths % 10)
-}
-
-fn dowels(count: u32) -> String {
-    match count {
-        0 => NONE.to_owned(),
-        count => count.to_string(),
-    }
-}
-
-fn side(cell: Typed) -> String {
-    match (cell, cell.whole()) {
-        (_, Some(whole)) if whole < 10_000 => whole.to_string(),
-        (Typed::Blank, _) => NONE.to_owned(),
-        _ => "?".to_owned(),
-    }
 }

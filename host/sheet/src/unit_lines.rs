@@ -4,8 +4,9 @@ use crate::fields::Fields;
 use crate::header::has_number;
 use crate::headings::{self, Heading, Meaning};
 use crate::lines::Line;
+use crate::schema::{Cell, Schema};
 use crate::text::shown;
-use crate::{units, words};
+use crate::units;
 
 /// How much of a field is quoted.
 const QUOTED: usize = 40;
@@ -13,13 +14,13 @@ const QUOTED: usize = 40;
 /// So many units in a line are no chance, not even beside numbers.
 const UNITS_OF_A_LINE: usize = 2;
 
-/// The cells of width and height: a line with numbers there is a row, and a unit in it stands in the place of a number.
+/// The numbers of width and height in a row: a line with numbers there is a row, and a unit in it stands in the place of a number.
 const SECTION: [usize; 2] = [6, 7];
 
 /// What is wrong with a line of units below the header, if it is one.
 pub fn below_header(line: &Line, columns: &Columns) -> Option<String> {
     let fields = fields_of_cells(line, columns);
-    let is_of_section = |field: &&UnitField| SECTION.contains(&field.cell);
+    let is_of_section = |field: &&UnitField| field.is_of_section();
     let is_number = |field: &UnitField| is_number(field.text.as_bytes(), columns.separator);
     let mut section = fields.iter().filter(is_of_section).peekable();
     if section.peek().is_some() && section.all(is_number) {
@@ -31,40 +32,43 @@ pub fn below_header(line: &Line, columns: &Columns) -> Option<String> {
         .collect();
     let is_without_numbers = !has_number(line.text, columns.separator);
     if is_without_numbers || units.len() >= UNITS_OF_A_LINE {
-        let foreign = |field: &&UnitField| !units::is(field.own_unit(), &field.words);
+        let foreign = |field: &&UnitField| !units::is(field.cell.words.unit, &field.words);
         if let Some(field) = units.into_iter().find(foreign) {
             return Some(field.problem(line));
         }
     }
     let is_without_cells = columns.numbers_from(0, line.text) == 0;
-    foreign_force_in(line, columns).filter(|_| is_without_cells)
+    foreign_load_in(line, columns).filter(|_| is_without_cells)
 }
 
-/// What is wrong with a line above the header: a unit of forces that no cell has, or above a cell any unit that none has.
+/// What is wrong with a line above the header: a unit of loads that no cell has, or above a cell any unit that none has.
 pub fn above_header(line: &Line, columns: &Columns) -> Option<String> {
     let of_cells = || {
         let fields = fields_of_cells(line, columns);
-        let foreign = fields.iter().find(|field| field.ends_in_foreign_unit());
+        let schema = columns.schema;
+        let foreign = fields
+            .iter()
+            .find(|field| field.ends_in_foreign_unit(schema));
         foreign.map(|field| field.problem(line))
     };
-    foreign_force_in(line, columns).or_else(of_cells)
+    foreign_load_in(line, columns).or_else(of_cells)
 }
 
-/// A field of any column that speaks of a unit of forces that no cell has.
-fn foreign_force_in(line: &Line, columns: &Columns) -> Option<String> {
+/// A field of any column that speaks of a unit of loads or forces that no cell has.
+fn foreign_load_in(line: &Line, columns: &Columns) -> Option<String> {
+    let schema = columns.schema;
     let mut fields = Fields::of(line.text, columns.separator).enumerate();
     fields.find_map(|(place, field)| {
         let text = String::from_utf8_lossy(&field);
-        let has_force = units::has_foreign_force(&headings::words_of(&text));
-        let problem = "forces have to be in N, moments in N·mm";
-        has_force.then(|| in_column(line, place, &text, problem))
+        let has_load = units::has_foreign_load(&headings::words_of(&text), schema);
+        has_load.then(|| in_column(line, place, &text, schema.loads_wanted))
     })
 }
 
 /// A field in the column of a cell.
 struct UnitField {
     place: usize,
-    cell: usize,
+    cell: &'static Cell,
     text: String,
     words: Vec<String>,
 }
@@ -81,7 +85,7 @@ fn fields_of_cells(line: &Line, columns: &Columns) -> Vec<UnitField> {
             let words = headings::words_of(&text);
             Some(UnitField {
                 place,
-                cell,
+                cell: columns.schema.cell(cell),
                 text,
                 words,
             })
@@ -90,22 +94,23 @@ fn fields_of_cells(line: &Line, columns: &Columns) -> Vec<UnitField> {
 }
 
 impl UnitField {
-    fn own_unit(&self) -> &'static str {
-        words::cell_words(self.cell).map_or("", |words| words.unit)
+    fn is_of_section(&self) -> bool {
+        let number = self.cell.number;
+        number.is_some_and(|number| SECTION.contains(&number))
     }
 
     /// Whether the text is, or ends after a comma or in brackets with, a unit that no cell has, above a cell that has one.
     ///
     /// A symbol, as m in "b, h, m", is no unit.
-    fn ends_in_foreign_unit(&self) -> bool {
+    fn ends_in_foreign_unit(&self, schema: &Schema) -> bool {
         let ending = self.text.rsplit([',', '(', '[']).next().unwrap_or("");
-        let is_symbol = matches!(headings::read(ending), Meaning::Known(_));
-        let is_foreign = units::is_foreign(&headings::words_of(ending));
-        is_foreign && !is_symbol && !self.own_unit().is_empty()
+        let is_symbol = matches!(headings::read_in(schema, ending), Meaning::Known(_));
+        let is_foreign = units::is_foreign(&headings::words_of(ending), schema);
+        is_foreign && !is_symbol && !self.cell.words.unit.is_empty()
     }
 
     fn problem(&self, line: &Line) -> String {
-        in_column(line, self.place, &self.text, &words::unit_wanted(self.cell))
+        in_column(line, self.place, &self.text, &self.cell.unit_wanted())
     }
 }
 

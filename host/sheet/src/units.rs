@@ -1,4 +1,5 @@
 //! Units as they stand after a name in a heading.
+use crate::schema::Schema;
 use std::collections::HashMap;
 use std::sync::LazyLock;
 
@@ -13,6 +14,7 @@ const SPELLINGS: &[(&str, &[&str])] = &[
     ("mm", &[]),
     ("N", &[]),
     ("N·mm", &[]),
+    ("N/m", &["N per m", "Н/п.м", "Н/пог.м", "Н/м.п"]),
     (
         "hundredths of N/mm²",
         &[
@@ -32,19 +34,28 @@ const FOREIGN_FORCES: &[&str] = &[
     "N·m", "N·cm", "kN·m", "kN·cm", "kN·mm", "MN·m", "kgf·m", "кгс·м", "кгс·см", "tf·m", "тс·м", "kip·ft",
 ];
 
+/// Units of loads on a length that no cell has.
+#[rustfmt::skip]
+const FOREIGN_LINE_LOADS: &[&str] = &[
+    "kN/m", "kN/cm", "kN/mm", "MN/m", "daN/m", "N/cm", "N/mm", "kgf/m", "кгс/м", "kg/m", "tf/m", "тс/м", "t/m",
+    "тыс. Н/м", "lbf/ft", "kip/ft", "kN per m", "кН/п.м", "кН/пог.м", "кН/м.п", "кгс/п.м", "кгс/пог.м", "кгс/м.п",
+    "кг/п.м", "кг/пог.м", "кг/м.п", "тс/п.м", "тс/пог.м", "т/п.м", "т/пог.м",
+];
+
 /// Other units that no cell has, and that stand in other tables for the same quantities.
 #[rustfmt::skip]
 const FOREIGN: &[&str] = &[
     "cm", "dm", "m", "km", "in", "ft", "kg", "t", "t·m",
-    "Pa", "kPa", "MPa", "psi", "N/mm²", "N/cm²", "kN/cm²", "kN/m²", "kgf/cm²", "кгс/см²",
-    "N/m", "N/mm", "kN/m", "mm²", "cm²", "m²",
+    "Pa", "kPa", "MPa", "psi", "N/mm²", "N/cm²", "N/m²", "kN/cm²", "kN/m²", "kgf/cm²", "кгс/см²", "kgf/m²", "кгс/м²",
+    "kg/m²", "mm²", "cm²", "m²",
 ];
 
 #[derive(Clone, Copy, Debug, PartialEq, Eq)]
-enum Unit {
+pub enum Unit {
     /// One of `words`.
     Own(&'static str),
     ForeignForce,
+    ForeignLineLoad,
     Foreign,
 }
 
@@ -58,18 +69,22 @@ pub fn is_any(given: &[String]) -> bool {
     read(given).is_some()
 }
 
-/// Whether these words are a unit that no cell has.
-pub fn is_foreign(given: &[String]) -> bool {
-    matches!(read(given), Some(Unit::ForeignForce | Unit::Foreign))
+/// Whether these words are a unit that no cell of such a sheet has.
+pub fn is_foreign(given: &[String], schema: &Schema) -> bool {
+    match read(given) {
+        Some(Unit::Own(unit)) => !schema.has_unit(unit),
+        Some(_) => true,
+        None => false,
+    }
 }
 
-/// Whether one of these words is a unit of forces that no cell has, or two are thousands of one.
-pub fn has_foreign_force(words: &[String]) -> bool {
-    let thousands = words.windows(2).filter(|pair| pair[0] == "тыс");
-    words
-        .chunks(1)
-        .chain(thousands)
-        .any(|part| read(part) == Some(Unit::ForeignForce))
+/// Whether one of these words, or two that can only be one unit, are a unit in which loads would be typed too small.
+pub fn has_foreign_load(words: &[String], schema: &Schema) -> bool {
+    // Thousands of a unit, and loads on a running metre, п.м.
+    let begins_unit = |word: &str| word == "тыс" || word.contains('/');
+    let pairs = words.windows(2).filter(|pair| begins_unit(&pair[0]));
+    let mut read = words.chunks(1).chain(pairs).filter_map(read);
+    read.any(|unit| schema.foreign_loads.contains(&unit))
 }
 
 fn read(given: &[String]) -> Option<Unit> {
@@ -85,8 +100,11 @@ fn by_key() -> HashMap<String, Unit> {
     let forces = FOREIGN_FORCES
         .iter()
         .map(|unit| (*unit, Unit::ForeignForce));
+    let line_loads = FOREIGN_LINE_LOADS
+        .iter()
+        .map(|unit| (*unit, Unit::ForeignLineLoad));
     let others = FOREIGN.iter().map(|unit| (*unit, Unit::Foreign));
-    let all = own.chain(forces).chain(others);
+    let all = own.chain(forces).chain(line_loads).chain(others);
     all.map(|(spelling, unit)| (key(&crate::headings::words_of(spelling)), unit))
         .collect()
 }

@@ -1,4 +1,4 @@
-//! What a reader sees in place of numbers: kinds, cells, checks and their clauses. Nothing is judged by it.
+//! What a reader sees in place of numbers: kinds, cells, regimes, checks and their clauses. Nothing is judged by it.
 
 use lvl_addin::row;
 use std::ops::RangeInclusive;
@@ -47,23 +47,33 @@ const CELLS: [CellWords; row::CELLS] = [
     cell("km", "hundredths of N/mm²", "100 to 5000"),
 ];
 
-/// The words for a cell by its number, from 1.
+/// What a floor beam has in place of a row's forces: both loads and the span.
+pub const FLOOR: [CellWords; 3] = [
+    cell("permanent and long-term load", "N/m", "from 0"),
+    cell("remaining load", "N/m", "from 0"),
+    cell("span", "mm", "500 to 20000"),
+];
+
+/// Both loads of a floor beam together.
+pub const TOTAL_LOAD: CellWords = cell("total load q", "N/m", "100 to 100000");
+
+/// The words for a row's cell by its number, from 1.
 pub fn cell_words(number: usize) -> Option<&'static CellWords> {
-    CELLS.get(number.checked_sub(1)?)
+    cells().nth(number.checked_sub(1)?)
 }
 
-/// In which unit a cell has to be.
-pub fn unit_wanted(number: usize) -> String {
-    match cell_words(number) {
-        Some(words) if words.unit.is_empty() => format!("{} has no unit", words.name),
-        Some(words) => format!("{} has to be in {}", words.name, words.unit),
-        None => format!("not the unit of cell {number}"),
-    }
-}
-
-/// The words for all cells, cell 1 first.
+/// The words for all cells of a row, cell 1 first.
 pub fn cells() -> impl Iterator<Item = &'static CellWords> {
     CELLS.iter()
+}
+
+/// The letter of a load duration regime, Table 4.
+pub fn regime(code: u32) -> &'static str {
+    const LETTERS: [&str; 11] = ["А", "Б", "В", "Г", "Д", "Е", "Ж", "И", "К", "Л", "М"];
+    let place = (code as usize).checked_sub(1);
+    place
+        .and_then(|place| LETTERS.get(place))
+        .unwrap_or(&"unknown")
 }
 
 pub fn kind(number: u64) -> Option<&'static str> {

@@ -1,4 +1,4 @@
-//! The sheet command on a hall roof and on whatever else people paste: always a verdict, a refusal or a clear message.
+//! The sheet command on a hall roof, on floor beams and on whatever else people paste: always a verdict, a refusal or a clear message.
 
 mod common;
 
@@ -7,6 +7,7 @@ mod columns;
 mod command_line;
 mod encodings;
 mod first_lines;
+mod floor;
 mod formulas;
 mod headers;
 mod headings;
