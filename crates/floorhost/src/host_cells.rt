@@ -55,6 +55,7 @@ pub(crate) fn read_loading(beam: &[u8]) -> ReadLoading
     }
 }
 
+// Whether a cell is unreadable.
 fn is_unreadable(reading: Reading) -> bool
     ensures { λ r. ⌜ r ≡ isUnreadable reading ⌝ }
 {

@@ -1,4 +1,4 @@
-// The floor-beam check for the host: its bytes read, checked, and the verdict put into the lent answer.
+// The floor-beam check over lent bytes.
 pub mod host;
 mod host_answer;
 mod host_cells;

@@ -1,2 +1,2 @@
-// The loads on a floor beam: their ranges, the regime, M and Q.
+// What is made of a floor beam's loads and span.
 pub mod loads;

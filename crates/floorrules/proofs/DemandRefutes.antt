@@ -27,9 +27,8 @@ use Rattle.floorrules.specs.BeamRow.{beamRow}
 use Rattle.floorrules.specs.Demand.{floorFactor, exactForcesOf, KeepsFloorDemand}
 use Rattle.floorrules.specs.EdgeBeams.{bendingEdge, bendingEdgeBeam, shearEdge, shearEdgeBeam, roundingEdge, roundingEdgeBeam}
 use Rattle.floorrules.specs.FloorBeam.{floorBeam}
-use Rattle.floorrules.specs.Loads.{loadingInRange, momentOf, shearOf}
+use Rattle.floorrules.specs.Loads.{loadingInRange, momentOf}
 use Rattle.floorrules.specs.WorkedBeams.{livingRoom, livingRoomBeam, archive, archiveBeam}
-use Rattle.floorrules.specs.declared.answer.BeamAnswer.{BeamAnswer}
 use Rattle.floorrules.specs.declared.answer.BeamAnswer.the-variants.{Refused, Judged}
 use Rattle.floorrules.specs.declared.answer.BeamRefusal.{BeamRefusal}
 use Rattle.floorrules.specs.declared.answer.BeamVerdict.{BeamVerdict}

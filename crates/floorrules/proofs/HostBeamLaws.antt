@@ -1,13 +1,13 @@
 -- Reading the host's floor beam: what was read keeps the ranges of the loads, which refusals there are, and that every answer keeps demand 3.
 -- Assumes nothing.
-use Prim.Native.Nat.{ℕ, _*_, _≤_}
+use Prim.Native.Nat.{ℕ, _≤_}
 use native.Mathlib.Omega.{arith}
 use mathlib.Core.Bool.{Bool, true, false, cond}
 use mathlib.Core.List.{List}
 use mathlib.Core.Logic.{_⊎_, inl, inr}
 use mathlib.Core.Path.{_≡_, refl, ap, _∙_, subst}
 use borrow.Author.Tests.{eqb-true}
-use lib.Dec.{eqb, lit≤}
+use lib.Dec.{eqb}
 use lib.ListN.{length}
 use Rattle.rounding.specs.Range.{In}
 use Rattle.cells.specs.Lowest.{lowest}
@@ -18,8 +18,6 @@ use Rattle.cells.proofs.ResultLaws.{then-given}
 use Rattle.member.specs.Checks.{Check}
 use Rattle.member.specs.Demand3.{keptFrom, EachFrom}
 use Rattle.member.specs.Verdict.{verdict}
-use Rattle.worksheet.specs.HostAnswer.{floatsResult}
-use Rattle.worksheet.specs.HostRow.{hostCellBytes}
 use Rattle.worksheet.specs.OwnCell.{ownResult}
 use Rattle.worksheet.specs.Reading.{readCell, isUnreadable, lowestUnreadable, readCells}
 use Rattle.worksheet.specs.declared.own_cell.OwnNumber.{OwnNumber}
@@ -27,7 +25,7 @@ use Rattle.worksheet.specs.declared.own_cell.OwnNumber.the-variants.{Given, Mis
 use Rattle.worksheet.proofs.ReadingLaws.{asRead}
 use Rattle.worksheet.proofs.RefusalNumbers.{Numbered}
 use Rattle.floorrules.specs.FloorBeam.{acceptLoading, besides, floorBeam}
-use Rattle.floorrules.specs.HostBeam.{beamCellCount, beamCellAt, loadAt, loadingOf, hostLoading, hostCellsOfRow, beamCellsOf, hostBeamCells, loadsThenCells, readHostBeam, beamBytes, beamAnswered, checkRead, lengthLast, hostFloorBeam, beamPassOrFail, beamReturns, beamLeaves, HostKeepsFloorDemand}
+use Rattle.floorrules.specs.HostBeam.{beamCellAt, loadAt, loadingOf, hostLoading, hostCellsOfRow, beamCellsOf, hostBeamCells, loadsThenCells, readHostBeam, beamBytes, checkRead, lengthLast, hostFloorBeam, beamPassOrFail, beamReturns, beamLeaves, HostKeepsFloorDemand}
 use Rattle.floorrules.specs.Loads.{loadingInRange}
 use Rattle.floorrules.specs.WorkedBeams.{loads}
 use Rattle.floorrules.specs.declared.answer.BeamVerdict.{BeamVerdict}

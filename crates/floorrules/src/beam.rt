@@ -1,7 +1,7 @@
 // A floor beam as it is typed.
 use cells::row::Cell;
 
-// The loads on a floor beam, design values in N/m, and its span in mm.
+// The loads on a floor beam, in N/m, and its span, in mm.
 pub struct Loading {
     // permanent and long-term load together
     pub lasting: u64,

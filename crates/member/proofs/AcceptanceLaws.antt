@@ -203,7 +203,7 @@ module _ (kind : Kind) (cells : List Cell) {begun : Bool} (is : begun ≡ isBegu
   unfolding acceptKind
   none-refused ok = rw (← is, ok .fill, ok .code, ok .range)
 
--- what a row of a known kind gives, where it is not refused, is the member of its cells
+-- what follows from a result that no refusal stands before
 given-unless : (m : Member) {P : Type 0} (number cell : ℕ) (rest : Result Member) → (rest ≡ gives m → P) → unlessRefused number cell rest ≡ gives m → P
 given-unless m {P} number cell rest then = by (eqb cell 0)
   where
@@ -211,6 +211,7 @@ given-unless m {P} number cell rest then = by (eqb cell 0)
     by true e = then e
     by false e = absurd (let z : _≡_ {A = ℕ} 0 1 = cc in omega arith)
 
+-- what a row of a known kind gives, where it is not refused, is the member of its cells
 pub accepted-member : (kind : Kind) (cells : List Cell) (m : Member) → acceptKind kind cells ≡ gives m → m ≡ memberOf kind (isBegun kind cells) (valuesOf cells)
 unfolding acceptKind
 accepted-member kind cells m =

@@ -50,9 +50,3 @@ judged-only (Judged w) v e = ap (λ (r : Result Verdict). Judged (valueOr w r)) 
 pub answer-keeps : (cells : List Cell) (answer : Answer) → length cells ≡ cellCount → answerResult answer ≡ checkRow cells → (k : Check → ℕ) → EachFrom keptFrom k → KeepsDemand3 cells answer k
 answer-keeps cells answer whole says k big m given =
     (verdict m, judged-only answer (verdict m) (says ∙ ap judged given), keeps-demand-3 cells m whole given k big)
-
--- and, in kind 2, demand 3 for any M and Q that round up to the cells: what a crate needs that makes such rows from loads
-pub bending-answer-keeps : (cells : List Cell) (answer : Answer) (m : Member) → length cells ≡ cellCount → answerResult answer ≡ checkRow cells → accept cells ≡ gives m → m .kind ≡ Bending
-    → (f : Forces) → RoundsUpTo (m .moment) (f .M) → RoundsUpTo (m .shear) (f .Q) → (k : Check → ℕ) → EachFrom keptFrom k → (v : Verdict) × (answer ≡ Judged v) × Demand3At m f v k
-bending-answer-keeps cells answer m whole says given e f upM upQ k big =
-    (verdict m, judged-only answer (verdict m) (says ∙ ap judged given), bending-keeps-demand-3 cells m whole given e f upM upQ k big)

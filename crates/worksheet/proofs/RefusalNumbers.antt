@@ -39,12 +39,12 @@ abbrev pub Numbered : {A : Type 0} → ℕ → ℕ → Result A → Type 0
 Numbered lo hi (gives value) = Unit
 Numbered lo hi (refuses number cell) = In lo hi number × (cell ≤ cellCount)
 
-pub by-test : {A : Type 0} (lo hi number cell : ℕ) (rest : Result A) → In lo hi number → cell ≤ cellCount → Numbered lo hi rest
+by-test : {A : Type 0} (lo hi number cell : ℕ) (rest : Result A) → In lo hi number → cell ≤ cellCount → Numbered lo hi rest
     → (t : Bool) → Numbered lo hi (cond t rest (refuses number cell))
 by-test lo hi number cell rest here within later true = later
 by-test lo hi number cell rest here within later false = (here, within)
 
-pub within : (lo hi n : ℕ) → lo ≤ n → n ≤ hi → In lo hi n
+within : (lo hi n : ℕ) → lo ≤ n → n ≤ hi → In lo hi n
 within lo hi n low high = record { low = low; high = high }
 
 -- reading refuses with 1
@@ -93,16 +93,16 @@ answer-numbered room verdict = by (eqb room 24)
     by false = (within 5 5 5 (omega arith) (omega arith), omega arith)
 
 -- what comes after an operation that gives a value; a refusal of wider numbers
-pub then-numbered : {A B : Type 0} (lo hi : ℕ) (result : Result A) (next : A → Result B) → Numbered lo hi result → ((value : A) → result ≡ gives value → Numbered lo hi (next value))
+then-numbered : {A B : Type 0} (lo hi : ℕ) (result : Result A) (next : A → Result B) → Numbered lo hi result → ((value : A) → result ≡ gives value → Numbered lo hi (next value))
     → Numbered lo hi (andThen result next)
 then-numbered lo hi (gives value) next here later = later value refl
 then-numbered lo hi (refuses number cell) next here later = here
 
-pub wide-numbered : {A : Type 0} (lo hi : ℕ) {lo′ hi′ : ℕ} (result : Result A) → lo ≤ lo′ → hi′ ≤ hi → Numbered lo′ hi′ result → Numbered lo hi result
+wide-numbered : {A : Type 0} (lo hi : ℕ) {lo′ hi′ : ℕ} (result : Result A) → lo ≤ lo′ → hi′ ≤ hi → Numbered lo′ hi′ result → Numbered lo hi result
 wide-numbered lo hi (gives value) l h here = tt
 wide-numbered lo hi (refuses number cell) l h here = (in-wide lo hi l h (here .0), here .1)
 
-pub judged-numbered : (lo hi : ℕ) (result : Result Member) → Numbered lo hi result → Numbered lo hi (judged result)
+judged-numbered : (lo hi : ℕ) (result : Result Member) → Numbered lo hi result → Numbered lo hi (judged result)
 judged-numbered lo hi (gives m) here = tt
 judged-numbered lo hi (refuses number cell) here = here
 

@@ -47,6 +47,8 @@ pub fn schema() -> &'static Schema {
             SHEAR,
         ],
         table: vec![
+            LENGTHS,
+            table::SIZES,
             TOTAL_LOADS,
             REGIMES,
             MOMENTS,
@@ -122,6 +124,13 @@ const TOTAL_LOADS: TableColumn = TableColumn {
         Some(_) => "?".to_owned(),
         None => NONE.to_owned(),
     },
+};
+
+const LENGTHS: TableColumn = TableColumn {
+    heading: "Span, mm",
+    width: 8,
+    side: Side::Right,
+    text: |row, _| table::length(row.cell(SPAN), 6),
 };
 
 const REGIMES: TableColumn = TableColumn {

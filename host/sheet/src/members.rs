@@ -2,7 +2,6 @@
 use crate::answers::{CHECK, COUNT, REFUSAL, REFUSED_CELL, UTILISATION, VERDICT};
 use crate::heading_names;
 use crate::judgement::Judgement;
-use crate::number::Typed;
 use crate::row::SheetRow;
 use crate::schema::{Cell, Schema};
 use crate::table::{self, Side, TableColumn, NONE};
@@ -13,10 +12,7 @@ use lvl_addin::entry;
 use lvl_addin::row::CELLS;
 use std::sync::{LazyLock, OnceLock};
 
-/// The places of the cells that the table shows.
 const KIND: usize = 1;
-const WIDTH: usize = 6;
-const HEIGHT: usize = 7;
 
 pub fn schema() -> &'static Schema {
     static SCHEMA: LazyLock<Schema> = LazyLock::new(|| Schema {
@@ -32,7 +28,13 @@ pub fn schema() -> &'static Schema {
         judge,
         whole_row_reason,
         answers: vec![VERDICT, CHECK, UTILISATION, COUNT, REFUSAL, REFUSED_CELL],
-        table: vec![KINDS, SIZES, table::VERDICT, table::UTILISATION, DOWELS],
+        table: vec![
+            KINDS,
+            table::SIZES,
+            table::VERDICT,
+            table::UTILISATION,
+            DOWELS,
+        ],
         by_key: OnceLock::new(),
     });
     &SCHEMA
@@ -57,16 +59,6 @@ const KINDS: TableColumn = TableColumn {
     },
 };
 
-const SIZES: TableColumn = TableColumn {
-    heading: "b × h, mm",
-    width: 11,
-    side: Side::Left,
-    text: |row, _| {
-        let [width, height] = [WIDTH, HEIGHT].map(|place| length(row.cell(place)));
-        format!("{width:>4} × {height:<4}")
-    },
-};
-
 const DOWELS: TableColumn = TableColumn {
     heading: "Dowels",
     width: 6,
@@ -76,11 +68,3 @@ const DOWELS: TableColumn = TableColumn {
         _ => NONE.to_owned(),
     },
 };
-
-fn length(cell: Typed) -> String {
-    match (cell, cell.whole()) {
-        (_, Some(whole)) if whole < 10_000 => whole.to_string(),
-        (Typed::Blank, _) => NONE.to_owned(),
-        _ => "?".to_owned(),
-    }
-}

@@ -126,6 +126,16 @@ impl<'a> SheetRow<'a> {
         self.cells[place - 1]
     }
 
+    /// What was typed into the cell with this number in a row.
+    pub fn numbered(&self, number: usize) -> Typed {
+        let (place, _) = self
+            .columns
+            .schema
+            .numbered(number)
+            .expect("a cell of every schema");
+        self.cell(place)
+    }
+
     /// The words for a cell, by its place.
     pub fn words(&self, place: usize) -> &'static CellWords {
         self.columns.schema.cell(place).words

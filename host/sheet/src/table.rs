@@ -1,5 +1,6 @@
 //! The table that a person reads.
 use crate::judgement::Judged;
+use crate::number::Typed;
 use crate::row::{Outcome, SheetRow};
 use crate::schema::Schema;
 use crate::text::{shown, width};
@@ -29,6 +30,28 @@ pub struct TableColumn {
 pub enum Side {
     Left,
     Right,
+}
+
+/// The numbers of width and height in a row.
+const SECTION: [usize; 2] = [6, 7];
+
+pub const SIZES: TableColumn = TableColumn {
+    heading: "b × h, mm",
+    width: 11,
+    side: Side::Left,
+    text: |row, _| {
+        let [width, height] = SECTION.map(|number| length(row.numbered(number), 4));
+        format!("{width:>4} × {height:<4}")
+    },
+};
+
+/// A length of at most so many digits.
+pub fn length(cell: Typed, digits: u32) -> String {
+    match (cell, cell.whole()) {
+        (_, Some(whole)) if whole < 10_u64.pow(digits) => whole.to_string(),
+        (Typed::Blank, _) => NONE.to_owned(),
+        _ => "?".to_owned(),
+    }
 }
 
 pub const VERDICT: TableColumn = TableColumn {

@@ -26,8 +26,10 @@ fn the_example() {
     assert_eq!((run.code, run.err.as_str()), (1, ""));
     assert_eq!(run.summary(), "38 rows: 23 passed, 5 failed, 10 refused");
     let heading =
-        "  q, N/m  Regime  M, kN·m    Q, kN  Verdict  Util. %  Governing check, clause of SP 64";
+        "  Span, mm  b × h, mm     q, N/m  Regime  M, kN·m    Q, kN  Verdict  Util. %  Governing check, clause of SP 64";
     assert!(run.line("Beam ").ends_with(heading), "{}", run.out);
+    let geometry = "      3900    45 × 200      1930  В ";
+    assert!(run.line("B1 bedroom").contains(geometry), "{}", run.out);
     for (beam, parts) in OF_THE_EXAMPLE {
         let line = run.line(beam);
         for part in &parts[..3] {
