@@ -108,10 +108,11 @@
  *   54 to 62         width b, mm, as cell 6                     20 to 300
  *   63 to 71         height h, mm, as cell 7                    60 to 2500
  *
- * Loads are design values. A row of kind 2 is made of them and judged: regime
- * Be (2) where the first load is more than 80 percent of q, otherwise Ve (3);
- * M = q * span^2 / 8000 in N mm and Q = q * span / 2000 in N, each rounded up
- * to a whole number. Sag and lateral stability are not checked.
+ * Loads are design values, the beam's own weight among the first. A row of
+ * kind 2 is made of them and judged: regime Be (2) where 100 times the first
+ * load exceeds 80 times q, and Ve (3) where it does not; M = q * span^2 / 8000
+ * in N mm and Q = q * span / 2000 in N, each rounded up to a whole number. Sag
+ * and lateral stability are not checked.
  *
  * The answer is six doubles in 48 bytes, each lowest byte first, all whole
  * numbers: the three of a row's answer (utilisation; dowels, which are 0; the
@@ -122,7 +123,7 @@
  *   bytes 40 to 47   Q, N, at most 1000000
  *
  * A pass holds with nothing rounded, M and Q included; a fail means that the
- * check named fails so with 1.005 times M and Q.
+ * check named fails, still with nothing rounded, at 1.005 times M and Q.
  *
  *
  * REFUSALS
@@ -152,9 +153,11 @@
  *
  *   lvl_check_floor_beam:
  *   1  unreadable: the beam is not 72 bytes long (cell 0)
- *   8  a load or the span is blank, unreadable as above, or outside its range,
- *      or both loads together are (cell 0)
- *   1  unreadable: the lowest of cells 2, 4, 5, 6 and 7, by these numbers
+ *   8  a load or the span is blank or unreadable as above, or both loads
+ *      together or the span are outside their range (cell 0). A host that
+ *      wants to say which tests them itself
+ *   1  unreadable: the lowest of cells 2, 4, 5, 6 and 7, by these numbers: the
+ *      grade is cell 2, whatever its place in the beam
  *   2  misfilled: the lowest of cells 2, 4, 5, 6 and 7 that is blank
  *   3  unknown code: cell 2
  *   4  out of range: the lowest of cells 4, 5, 6 and 7
@@ -324,7 +327,8 @@ uint64_t lvl_pack_row(const uint8_t *row, size_t row_len,
  * Judges a floor beam.
  *
  * Returns LVL_PASS or LVL_FAIL and fills the answer's 48 bytes, or returns
- * 1000 * number + cell for refusals 1 to 5 and 8 and leaves the answer so.
+ * 1000 * number + cell for refusals 1 to 5 and 8 (no entry gives 6 or 7) and
+ * leaves the answer as it was.
  */
 uint64_t lvl_check_floor_beam(const uint8_t *beam, size_t beam_len,
                               uint8_t *answer, size_t answer_len);

@@ -42,7 +42,7 @@ beamRefusalCell (OfRow refusal) = refusalCell refusal
 abbrev pub beamRefusalCode : BeamRefusal → ℕ
 beamRefusalCode refusal = 1000 * beamRefusalNumber refusal + beamRefusalCell refusal
 
--- what the answer says in the paper's terms
+-- what the answer says as a result: a verdict, or a refusal by number and cell
 abbrev pub beamAnswerResult : BeamAnswer → Result BeamVerdict
 beamAnswerResult (Refused refusal) = refuses (beamRefusalNumber refusal) (beamRefusalCell refusal)
 beamAnswerResult (Judged v) = gives v

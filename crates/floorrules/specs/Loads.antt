@@ -13,7 +13,7 @@ use Rattle.floorrules.specs.declared.beam.Loading.{Loading}
 abbrev pub totalLoad : Loading → ℕ
 totalLoad l = l .lasting + l .remaining
 
--- request 1: each load is a whole number from 0, q is 100 to 100,000 N/m, the span 500 to 20,000 mm
+-- request 1: q from 100 to 100,000 N/m, the span from 500 to 20,000 mm; a load may be 0
 abbrev pub loadingInRange : Loading → Bool
 loadingInRange l = within 100 100000 (totalLoad l) && within 500 20000 (l .span)
 
@@ -22,7 +22,7 @@ pub record LoadingRanges (l : Loading) : Type 0 where
   pub load : In 100 100000 (totalLoad l)
   pub span : In 500 20000 (l .span)
 
--- request 1: permanent and long-term load are more than 80 percent of q
+-- request 1: the load that lasts exceeds 80 percent of q
 abbrev pub mostlyLasting : Loading → Bool
 mostlyLasting l = ltb (80 * totalLoad l) (100 * l .lasting)
 

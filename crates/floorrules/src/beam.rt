@@ -3,7 +3,7 @@ use cells::row::Cell;
 
 // The loads on a floor beam, in N/m, and its span, in mm.
 pub struct Loading {
-    // permanent and long-term load together
+    // permanent and long-term loads
     pub lasting: u64,
     pub remaining: u64,
     pub span: u64,

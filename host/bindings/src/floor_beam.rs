@@ -11,8 +11,8 @@ pub const BEAM_BYTES: usize = 9 * BEAM_CELLS;
 /// The bytes of the answer for a floor beam: six floats.
 pub const BEAM_ANSWER_BYTES: usize = 48;
 
-/// A floor beam's cells, each blank or a float: permanent and long-term load together and the remaining load, both in
-/// N/m, the span in mm; then cells 2, 4, 5, 6 and 7 of a row: grade, moisture, office factor, width, height.
+/// A floor beam's cells, each blank or a float: its loads in N/m, first what is permanent or long-term and then the
+/// rest, the span in mm; then cells 2, 4, 5, 6 and 7 of a row: grade, moisture, office factor, width, height.
 pub type HostBeam = [Option<f64>; BEAM_CELLS];
 
 /// The bytes that stand for a floor beam.

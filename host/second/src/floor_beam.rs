@@ -21,9 +21,9 @@ const SHORT_TERM_CODE: u64 = 3;
 /// What a beam carries, N/m, and its span, mm.
 #[derive(Clone, Copy, Debug)]
 pub struct Loads {
-    /// Permanent and long-term load together.
+    /// What is permanent or long-term.
     pub first: u64,
-    /// The remaining load.
+    /// What is neither.
     pub second: u64,
     pub span: u64,
 }

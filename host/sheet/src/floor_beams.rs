@@ -22,6 +22,9 @@ const OF_ROW: [usize; 5] = [2, 4, 5, 6, 7];
 /// A greater total load is not shown in the table, which has no room for it.
 const GREATEST_SHOWN: u64 = 9_999_999;
 
+/// Names and two more columns: by their order, loads could be exchanged.
+const WORDS_OF_A_HEADER: usize = 3;
+
 pub fn schema() -> &'static Schema {
     static SCHEMA: LazyLock<Schema> = LazyLock::new(|| Schema {
         one: "beam",
@@ -32,6 +35,10 @@ pub fn schema() -> &'static Schema {
         kind: None,
         in_first_cell: &["load", "нагрузк"],
         foreign_loads: &[Unit::ForeignForce, Unit::ForeignLineLoad],
+        words_of_a_header: Some(WORDS_OF_A_HEADER),
+        remark: Some(
+            "Strength alone, for design loads: sag and lateral stability are not checked.",
+        ),
         loads_wanted: "loads have to be in N/m",
         judge,
         whole_row_reason: load_reasons::reason,
@@ -137,7 +144,11 @@ const REGIMES: TableColumn = TableColumn {
     heading: "Regime",
     width: 6,
     side: Side::Left,
-    text: |_, judged| found(judged).map_or(NONE.to_owned(), regime),
+    // With its code: the letter Ve looks like a B, which is not the letter Be.
+    text: |_, judged| {
+        let lettered = |beam: &BeamVerdict| format!("{} ({})", regime(beam), beam.regime);
+        found(judged).map_or(NONE.to_owned(), lettered)
+    },
 };
 
 const MOMENTS: TableColumn = TableColumn {

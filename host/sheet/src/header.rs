@@ -69,6 +69,18 @@ pub fn is_open(line: &[u8], separators: &[u8], schema: &Schema) -> bool {
         && is_certain(&without_quotes(), separators, schema)
 }
 
+/// Whether a line has words in many columns and no number, in a sheet where this makes it a header.
+pub fn has_words_alone(line: &[u8], separators: &[u8], schema: &Schema) -> bool {
+    let Some(fewest) = schema.words_of_a_header else {
+        return false;
+    };
+    let has_words = |separator: &u8| {
+        let fields = Fields::of(line, *separator).filter(|field| !fields::is_blank(field));
+        fields.take(fewest).count() == fewest && !has_number(line, *separator)
+    };
+    separators.iter().any(has_words)
+}
+
 /// What a sheet lists that knows more of a header's headings than such a sheet does, if there is one.
 pub fn rather_of(header: &[u8], separator: u8, schema: &Schema) -> Option<&'static Schema> {
     let known = known_headings(header, separator, schema);

@@ -125,6 +125,8 @@ fn plain(letter: char) -> char {
     match letter {
         'ё' => 'е',
         'й' => 'и',
+        // What Word makes of a hyphen.
+        '\u{2010}'..='\u{2015}' | '−' => '-',
         '²' => '2',
         '³' => '3',
         other => other,

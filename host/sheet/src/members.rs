@@ -24,6 +24,8 @@ pub fn schema() -> &'static Schema {
         kind: Some(KIND),
         in_first_cell: &["kind"],
         foreign_loads: &[Unit::ForeignForce],
+        words_of_a_header: None,
+        remark: None,
         loads_wanted: "forces have to be in N, moments in N·mm",
         judge,
         whole_row_reason,

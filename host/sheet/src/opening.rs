@@ -162,7 +162,7 @@ fn pass_over(line: &Line, header: &Line, columns: &Columns) -> Result<String, St
         ));
     }
     if columns.basis == Basis::Headings {
-        unit_lines::above_header(line, columns).map_or(Ok(()), Err)?;
+        unit_lines::above_header(line, header, columns).map_or(Ok(()), Err)?;
     }
     Ok(format!(
         "{quoted} stands above the header in line {number} and is passed over"
@@ -188,6 +188,7 @@ fn without_header<'a>(
     if !options.by_position {
         refuse_spoilt_header(rows, separators, options.schema)?;
         refuse_header_of_another(rows, separators)?;
+        refuse_unknown_header(rows, separators, options.schema)?;
     }
     if let Some(heading) = options.skip.first() {
         return Err(format!(
@@ -238,6 +239,19 @@ fn refuse_header_of_another(rows: &[Ahead], separators: &[u8]) -> Result<(), Str
             "{} is the header of another sheet: {}",
             quoted(&ahead.line),
             schema.asked_for
+        )),
+        None => Ok(()),
+    }
+}
+
+/// A first line of words alone is a header of which too little is known to tell the columns; what stands in it may be in any order.
+fn refuse_unknown_header(rows: &[Ahead], separators: &[u8], schema: &Schema) -> Result<(), String> {
+    let seems_header =
+        |ahead: &&Ahead| header::has_words_alone(ahead.line.text, separators, schema);
+    match rows.first().filter(seems_header) {
+        Some(ahead) => Err(format!(
+            "{} seems to be a header, but its headings are not known; --help lists those that are, and --by-position takes the columns in their order",
+            quoted(&ahead.line)
         )),
         None => Ok(()),
     }

@@ -261,16 +261,20 @@ the last five are a member's, under their numbers:
 
 {floor cells}
 
-The total load q, both loads together, has to be 100 to 100000 N/m. The regime is Б
-where the permanent and long-term load is more than 80 percent of q, otherwise В.
+The total load q, both loads together, has to be 100 to 100000 N/m. Where more than
+80 percent of it is permanent or long-term the regime is Б, and up to that В.
 M = q × span² / 8000 in N·mm and Q = q × span / 2000 in N, both rounded up, are
-checked as for a member of kind 2. A load, q or a span that is blank, no whole
-number or outside its range is refusal 8, before all others. The table shows q, the
-regime, and M and Q in kN·m and kN, rounded up to two decimals; --csv has M and Q
-whole, in N·mm and N.
+checked as for a member of kind 2: strength alone, so that sag and lateral
+stability are not. Loads are design values, with their safety factors, the beam's
+own weight among the first. A load, q or a span that is blank, no whole number or
+outside its range is refusal 8, before all others. The table shows span, section, q,
+the regime by its letter and code, and M and Q in kN·m and kN,
+rounded up to two decimals; --csv has M and Q whole, in N·mm and N.
 
 Loads are in N/m alone: a heading or a line that speaks of kN/m or кгс/м stops the
-sheet. Where the order decides, the first column holds the beams' names, unless it
+sheet, and so does a title that speaks of loads on an area, or of cm, above headings
+without units. A first line of words alone that is not known as a header stops it
+too. Where the order decides, the first column holds the beams' names, unless it
 begins with a number or its heading has \"load\" or \"нагрузк\" in it. Headings
 that are known with --floor:
 

@@ -30,6 +30,10 @@ pub struct Schema {
     pub in_first_cell: &'static [&'static str],
     /// Units in which loads and forces would be typed far too small, so that no line may speak of them.
     pub foreign_loads: &'static [Unit],
+    /// So many fields of words, and no number, make a first line a header, though no heading is known; none where it is a row all the same.
+    pub words_of_a_header: Option<usize>,
+    /// What a reader of the table should know of what was not checked.
+    pub remark: Option<&'static str>,
     /// In which units loads and forces have to be.
     pub loads_wanted: &'static str,
     pub judge: fn(&[Option<f64>]) -> Result<Judgement, Refusal>,

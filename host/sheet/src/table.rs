@@ -160,6 +160,10 @@ impl Report for Table {
         if !self.held.is_empty() {
             self.release();
         }
+        if let Some(remark) = self.schema.remark {
+            self.add("");
+            self.add(remark);
+        }
         self.output.into_bytes()
     }
 }

@@ -42,12 +42,21 @@ const FOREIGN_LINE_LOADS: &[&str] = &[
     "кг/п.м", "кг/пог.м", "кг/м.п", "тс/п.м", "тс/пог.м", "т/п.м", "т/пог.м",
 ];
 
+/// Lengths in them would be typed ten times too small, which is within the ranges of spans and effective lengths.
+const CENTIMETRES: &[&str] = &["cm"];
+
+/// Units of loads on an area: not yet loads on a beam, and those in kilograms a tenth of them.
+#[rustfmt::skip]
+const AREA_LOADS: &[&str] = &[
+    "Pa", "kPa", "N/m²", "kN/m²", "daN/m²", "kgf/m²", "кгс/м²", "kg/m²", "tf/m²", "тс/м²", "t/m²",
+    "кН/кв.м", "кгс/кв.м", "кг/кв.м", "kN/sq.m", "kg/sq.m", "psf",
+];
+
 /// Other units that no cell has, and that stand in other tables for the same quantities.
 #[rustfmt::skip]
 const FOREIGN: &[&str] = &[
-    "cm", "dm", "m", "km", "in", "ft", "kg", "t", "t·m",
-    "Pa", "kPa", "MPa", "psi", "N/mm²", "N/cm²", "N/m²", "kN/cm²", "kN/m²", "kgf/cm²", "кгс/см²", "kgf/m²", "кгс/м²",
-    "kg/m²", "mm²", "cm²", "m²",
+    "dm", "m", "km", "in", "ft", "kg", "t", "t·m", "MPa", "psi", "N/mm²", "N/cm²", "kN/cm²", "kgf/cm²", "кгс/см²",
+    "mm²", "cm²", "m²",
 ];
 
 #[derive(Clone, Copy, Debug, PartialEq, Eq)]
@@ -56,6 +65,8 @@ pub enum Unit {
     Own(&'static str),
     ForeignForce,
     ForeignLineLoad,
+    AreaLoad,
+    Centimetres,
     Foreign,
 }
 
@@ -78,13 +89,18 @@ pub fn is_foreign(given: &[String], schema: &Schema) -> bool {
     }
 }
 
-/// Whether one of these words, or two that can only be one unit, are a unit in which loads would be typed too small.
-pub fn has_foreign_load(words: &[String], schema: &Schema) -> bool {
-    // Thousands of a unit, and loads on a running metre, п.м.
+/// Whether one of these words, or two that can only be one unit, are one of these units.
+pub fn has_one_of(words: &[String], wanted: &[Unit]) -> bool {
+    // Thousands of a unit, and loads on a running metre, п.м, or on a square one, кв.м.
     let begins_unit = |word: &str| word == "тыс" || word.contains('/');
     let pairs = words.windows(2).filter(|pair| begins_unit(&pair[0]));
     let mut read = words.chunks(1).chain(pairs).filter_map(read);
-    read.any(|unit| schema.foreign_loads.contains(&unit))
+    read.any(|unit| wanted.contains(&unit))
+}
+
+/// Whether these words end in a spelling of the unit.
+pub fn end_in(unit: &str, words: &[String]) -> bool {
+    (1..words.len()).any(|from| is(unit, &words[from..]))
 }
 
 fn read(given: &[String]) -> Option<Unit> {
@@ -103,8 +119,11 @@ fn by_key() -> HashMap<String, Unit> {
     let line_loads = FOREIGN_LINE_LOADS
         .iter()
         .map(|unit| (*unit, Unit::ForeignLineLoad));
+    let area_loads = AREA_LOADS.iter().map(|unit| (*unit, Unit::AreaLoad));
+    let centimetres = CENTIMETRES.iter().map(|unit| (*unit, Unit::Centimetres));
     let others = FOREIGN.iter().map(|unit| (*unit, Unit::Foreign));
-    let all = own.chain(forces).chain(line_loads).chain(others);
+    let loads = forces.chain(line_loads).chain(area_loads);
+    let all = own.chain(loads).chain(centimetres).chain(others);
     all.map(|(spelling, unit)| (key(&crate::headings::words_of(spelling)), unit))
         .collect()
 }

@@ -169,6 +169,10 @@ fn units_above_the_header_are_held_against_the_cells() {
             "line 1, column 12, \"Lengths, cm\": effective length Lh has to be in mm\n",
         ),
         (
+            ";Hall (cm);;",
+            "line 1, column 2, \"Hall (cm)\": effective length Lh has to be in mm; where it is, say so in its heading\n",
+        ),
+        (
             ";;;;;;mm;mm;Н;кНм;кН;мм;мм;",
             "line 1, column 10, \"кНм\": forces have to be in N, moments in N·mm\n",
         ),
@@ -184,7 +188,6 @@ fn units_above_the_header_are_held_against_the_cells() {
         ";;;;;;Dimensions b, h;;Forces, N / N·mm;;;Длины, мм;;",
         ";;;;;;;;Усилия (Н, Н·мм);;;;;",
         ";;;;;;;;Forces N, M;;;;;",
-        ";Hall (cm);;",
         "Шифр;2024-15;;Лист;1;Листов;5",
         "Прогоны по осям 1, 2, 3, 4, 5, 6",
         "Снеговая нагрузка 1,8 кПа, ветер 0,3 кН/м",

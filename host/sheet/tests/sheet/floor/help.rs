@@ -28,7 +28,9 @@ fn help_explains_floor_beams() {
     }
     for part in [
         "has to be 100 to 100000 N/m",
-        "more than 80 percent of q, otherwise В",
+        "Where more than\n80 percent of it is permanent or long-term the regime is Б, and up to that В.",
+        "strength alone, so that sag and lateral\nstability are not",
+        "Loads are design values",
         "M = q × span² / 8000 in N·mm and Q = q × span / 2000 in N, both rounded up",
         "is refusal 8, before all others",
         "rounded up to two decimals",

@@ -18,7 +18,7 @@ pub const HEADER: &str =
 pub const BEAM: &str = "B1,1600,400,4200,1,12,1000,45,160";
 
 /// How the table's line of `BEAM` ends.
-pub const JUDGED: &str = "   2000  В          4.41     4.20  pass        89.3  bending, 7.9";
+pub const JUDGED: &str = "   2000  В (3)      4.41     4.20  pass        89.3  bending, 7.9";
 
 pub fn example() -> String {
     let path = Path::new(env!("CARGO_MANIFEST_DIR")).join("../../examples/floor-beams.csv");

@@ -130,3 +130,34 @@ fn what_stops_a_sheet_of_members_stops_one_of_beams() {
     let utf16: Vec<u8> = utf16.encode_utf16().flat_map(u16::to_le_bytes).collect();
     assert!(floor(utf16, &[]).line("B1 ").ends_with(super::JUDGED));
 }
+
+/// By their order the loads could be exchanged: a header of which nothing is known is no row.
+#[test]
+fn a_header_that_is_not_known_stops() {
+    let beam = "Б8;400;1601;4200;1;12;1000;45;160";
+    for header in [
+        "Балка;Врем.;Пост.;Длина;Кл.;Вл.;К;Шир.;Выс.",
+        "Ref;Live;Dead;Length;Gr;MC;phi;bw;D",
+    ] {
+        let sheet = format!("{header}\n{beam}\n");
+        let run = floor(sheet.as_str(), &[]);
+        assert_eq!((run.code, run.out.as_str()), (2, ""), "{header}");
+        assert!(run.err.contains("seems to be a header"), "{}", run.err);
+        assert!(floor(sheet.as_str(), &["--by-position"])
+            .line("Б8 ")
+            .contains("pass"));
+    }
+    // In CP866, in which spreadsheets write "CSV (MS-DOS)".
+    let cp866 = b"\xa1\xa0\xab\xaa\xa0;\xae\xe1\xe2.;\xaf\xae\xe1\xe2.;\xaf\xe0.\nB8;400;1601;4200;1;12;1000;45;160\n";
+    assert_eq!(floor(cp866.as_slice(), &[]).code, 2);
+}
+
+/// What a word processor makes of a hyphen is one.
+#[test]
+fn hyphens_of_any_kind() {
+    for hyphen in ['\u{2010}', '\u{2011}', '–'] {
+        let header = super::HEADER.replace('-', &hyphen.to_string());
+        let run = floor(format!("{header}\n{}\n", super::BEAM), &[]);
+        assert!(run.line("B1 ").ends_with(super::JUDGED), "{}", run.err);
+    }
+}

@@ -28,6 +28,8 @@ fn the_example() {
     let heading =
         "  Span, mm  b × h, mm     q, N/m  Regime  M, kN·m    Q, kN  Verdict  Util. %  Governing check, clause of SP 64";
     assert!(run.line("Beam ").ends_with(heading), "{}", run.out);
+    let remark = "\nStrength alone, for design loads: sag and lateral stability are not checked.\n";
+    assert!(run.out.contains(remark), "{}", run.out);
     let geometry = "      3900    45 × 200      1930  В ";
     assert!(run.line("B1 bedroom").contains(geometry), "{}", run.out);
     for (beam, parts) in OF_THE_EXAMPLE {
@@ -43,7 +45,7 @@ fn the_example() {
 #[test]
 fn the_example_shows_every_verdict() {
     let out = table(example()).out;
-    for regime in ["  Б  ", "  В  "] {
+    for regime in ["  Б (2)  ", "  В (3)  "] {
         for verdict in ["  pass  ", "  FAIL  "] {
             let is_shown = |line: &str| line.contains(regime) && line.contains(verdict);
             assert!(out.lines().any(is_shown), "{regime}{verdict}");
@@ -73,7 +75,7 @@ fn exactly_80_percent_is_regime_v() {
         let run = table_of(&[&beam]);
         let total = long_term + remaining;
         assert!(
-            run.line("B1 ").contains(&format!(" {total}  {regime}  ")),
+            run.line("B1 ").contains(&format!(" {total}  {regime} (")),
             "{}",
             run.out
         );
@@ -105,7 +107,7 @@ fn headings_decide_in_any_order() {
     let exchanged =
         "beam,remaining load,permanent and long-term load,span,grade,moisture,factor,b,h";
     let run = table(format!("{exchanged}\nB1,1601,400,4200,1,12,1000,45,160\n"));
-    assert!(run.line("B1 ").contains(" 2001  В  "), "{}", run.out);
+    assert!(run.line("B1 ").contains(" 2001  В (3)  "), "{}", run.out);
     let russian =
         "Пролёт, мм;h, мм;Кратковременная (остальная) нагрузка, Н/м;Балка;Влажность, %;b, мм;\
         Постоянная и длительная нагрузка, Н/м;Коэффициент, ‰;Класс прочности\n\

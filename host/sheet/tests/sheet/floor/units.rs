@@ -105,12 +105,7 @@ fn in_a_line_above_the_header() {
         let message_given = stopped(&sheet(above), &[]);
         assert!(message_given.ends_with(message), "{message_given}");
     }
-    for above in [
-        "House 12: 9 x 11 m",
-        "Полезная нагрузка 1.5 кПа (150 кгс/м²)",
-        ",Loads (N/m),,mm",
-        "Нагрузки в Н/п.м",
-    ] {
+    for above in ["House 12: 9 x 11 m", ",Loads (N/m),,mm", "Нагрузки в Н/п.м"] {
         let run = table(sheet(above));
         assert!(run.line("B1 ").ends_with(JUDGED), "{above}: {}", run.err);
         assert!(run.err.contains("is passed over"), "{}", run.err);
@@ -145,4 +140,45 @@ fn beside_the_numbers_of_a_beam() {
             "{message}"
         );
     }
+}
+
+/// Spans in centimetres and loads in kilograms for a square metre lie within their ranges: a title that speaks of them stops the sheet, unless the
+/// headings themselves say in which units they are.
+#[test]
+fn a_title_in_units_that_the_headings_leave_open() {
+    const STATED: &str = "beam,permanent and long-term load N/m,remaining load N/m,span mm,grade,moisture,factor,b mm,h mm";
+    for title in [
+        "Пролёты в см",
+        "All dimensions in cm",
+        "Нагрузки в кгс/м2",
+        "Нагрузки: кг/кв.м",
+        "Loads in kN/m²",
+        "Полезная нагрузка 1.5 кПа (150 кгс/м²)",
+    ] {
+        let message = stopped(&format!("{title}\n{HEADER}\n{BEAM}\n"), &[]);
+        assert!(
+            message.ends_with("; where it is, say so in its heading\n"),
+            "{message}"
+        );
+        let run = table(format!("{title}\n{STATED}\n{BEAM}\n"));
+        assert!(run.line("B1 ").ends_with(JUDGED), "{title}: {}", run.err);
+        assert!(run.err.contains("is passed over"), "{}", run.err);
+    }
+}
+
+/// So it is with effective lengths of members.
+#[test]
+fn a_title_in_centimetres_above_members() {
+    let member = "A;3;3;2;13;1000;100;200;50000;300;200;1";
+    let sheet = |lengths: &str| {
+        format!("Lengths in cm\nmember;kind;grade;regime;moisture;factor;b mm;h mm;N;{lengths};row of Table 16\n{member}\n")
+    };
+    let run = common::table(sheet("Lh;Lb"));
+    assert_eq!((run.code, run.out.as_str()), (2, ""));
+    assert!(
+        run.err.ends_with("; where it is, say so in its heading\n"),
+        "{}",
+        run.err
+    );
+    assert_eq!(common::table(sheet("Lh mm;Lb mm")).code, 0);
 }
