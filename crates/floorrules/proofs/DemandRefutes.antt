@@ -1,5 +1,5 @@
 -- The reading of a floor beam's passes and fails has teeth: it refutes a refusal of a beam that the rules accept, and wrong verdicts, whatever else they say; its factor is
--- no more than 1.005 and no less than 1.003; it is M and Q unrounded that it speaks of; and nothing in it is empty.
+-- no more than 1.005, and 1.002 would be too little for check 8; it is M and Q unrounded that it speaks of; and nothing in it is empty.
 -- Assumes nothing.
 use Prim.Native.Nat.{ℕ}
 use native.Mathlib.Omega.{arith}

@@ -26,7 +26,7 @@ pub record LoadingRanges (l : Loading) : Type 0 where
 abbrev pub mostlyLasting : Loading → Bool
 mostlyLasting l = ltb (80 * totalLoad l) (100 * l .lasting)
 
--- request 1: the regime is Б (2) where they are, otherwise В (3)
+-- request 1: the regime is Б (2) where it does, otherwise В (3)
 abbrev pub regimeOf : Loading → ℕ
 regimeOf l = cond (mostlyLasting l) 2 3
 
