@@ -4,7 +4,7 @@
 //! class of row, verdict and refusal that can occur must have occurred often enough to mean something.
 mod common;
 
-use common::{assert_lengths, both};
+use common::{assert_lengths, both, count_answer, AnswerLengths};
 use lvl_addin::answer::Refusal;
 use lvl_addin::entry;
 use lvl_addin::row::{ANSWER_BYTES, CELLS};
@@ -93,8 +93,7 @@ struct Tally {
     classes: BTreeMap<Class, u64>,
     refusals: BTreeMap<(Operation, Refusal), u64>,
     row_lengths: BTreeMap<usize, u64>,
-    /// By length and whether the row is accepted.
-    answer_lengths: BTreeMap<(usize, bool), u64>,
+    answer_lengths: AnswerLengths,
     /// By length and whether the row reads.
     space_lengths: BTreeMap<(usize, bool), u64>,
 }
@@ -123,11 +122,7 @@ fn compare_check(case: &Case, cells: Result<Cells, Refusal>, salt: u64, tally: &
         salt,
     );
     let refusal = Refusal::from_code(code);
-    let accepted = refusal.is_none_or(|refusal| refusal.number == 5);
-    *tally
-        .answer_lengths
-        .entry((case.answer, accepted))
-        .or_default() += 1;
+    count_answer(&mut tally.answer_lengths, case.answer, refusal);
     if let Some(refusal) = refusal {
         return tally.refuse(Operation::Check, refusal);
     }

@@ -4,7 +4,7 @@
 //! Q unrounded, and every sort of beam, verdict and refusal must have occurred often enough to mean something.
 mod common;
 
-use common::{assert_lengths, both};
+use common::{assert_lengths, both, count_answer, AnswerLengths};
 use lvl_addin::answer::Refusal;
 use lvl_addin::entry;
 use lvl_addin::floor_beam::{BeamVerdict, BEAM_ANSWER_BYTES};
@@ -198,8 +198,7 @@ struct Tally {
     refusals: BTreeMap<Refusal, u64>,
     load_sorts: [u64; LOAD_SORTS.len()],
     beam_lengths: BTreeMap<usize, u64>,
-    /// By length and whether the beam is accepted.
-    answer_lengths: BTreeMap<(usize, bool), u64>,
+    answer_lengths: AnswerLengths,
 }
 
 /// Counts a case with every sort that it is of.
@@ -221,11 +220,7 @@ fn compare(case: &BeamCase, tally: &mut Tally) {
         salt,
     );
     let refusal = Refusal::from_code(code);
-    let accepted = refusal.is_none_or(|refusal| refusal.number == 5);
-    *tally
-        .answer_lengths
-        .entry((case.answer, accepted))
-        .or_default() += 1;
+    count_answer(&mut tally.answer_lengths, case.answer, refusal);
     match refusal {
         Some(refusal) => tally_refused(case, refusal, tally),
         None => tally_judged(case, code == 0, lent.part(), tally),

@@ -1,5 +1,10 @@
 //! Both implementations called on the same bytes, with guards around what is lent.
+use lvl_addin::answer::Refusal;
 use lvl_second::{beams, rows};
+use std::collections::BTreeMap;
+
+/// How many answers there were of each length, by whether all but that length is accepted.
+pub type AnswerLengths = BTreeMap<(usize, bool), u64>;
 
 /// Bytes to lend, with guards around them.
 #[derive(Clone, PartialEq, Eq, Debug)]
@@ -59,6 +64,12 @@ pub fn both(proved: Entry, second: Entry, given: &[u8], length: usize, salt: u64
         );
     }
     (code, ours)
+}
+
+/// Counts an answer by its length, and by whether all but that length is accepted.
+pub fn count_answer(lengths: &mut AnswerLengths, length: usize, refusal: Option<Refusal>) {
+    let accepted = refusal.is_none_or(|refusal| refusal.number == 5);
+    *lengths.entry((length, accepted)).or_default() += 1;
 }
 
 /// Holds the cases of each length up to the longest to be at least so many.

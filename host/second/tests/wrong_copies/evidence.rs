@@ -121,7 +121,7 @@ impl Wrong {
 /// Declares wrong copies and lists them: how they are seen, then each copy's name and the one rule it changes.
 macro_rules! wrong_copies {
     ($seen:ident: $($(#[$note:meta])* $name:ident { $($rule:tt)* })*) => {
-        $($(#[$note])* struct $name;
+        $($(#[$note])* pub struct $name;
         impl lvl_second::Rules for $name { $($rule)* }
         impl lvl_second::FloorRules for $name {})*
 

@@ -1,10 +1,10 @@
 //! One for each end of a range, each code, and each cell that a kind fills or leaves blank.
-use super::{kind_code, moved, slip, SLIP};
+use super::{kind_code, moved, slip, slip_on_beams, SLIP};
 use crate::evidence::Wrong;
 use lvl_addin::answer::Refusal;
 use lvl_addin::row::CELLS;
-use lvl_second::cells::{Cells, Grade, Kind};
-use lvl_second::{Paper, Rules};
+use lvl_second::cells::{Cells, Grade, Kind, HEIGHT, MOISTURE, OFFICE_FACTOR, WIDTH};
+use lvl_second::{FloorRules, Paper, Rules};
 use std::ops::RangeInclusive;
 
 /// One end of the range of one cell.
@@ -94,6 +94,27 @@ impl Rules for FillUnminded {
     }
 }
 
+impl FloorRules for RangeEnd {}
+impl FloorRules for GradeUnknown {}
+impl FloorRules for GradeKnown {}
+
+/// Of the cells that a floor beam has: the ends of their ranges, and the grades.
+pub fn on_beams() -> Vec<Wrong> {
+    let mut copies = Vec::new();
+    for number in [MOISTURE, OFFICE_FACTOR, WIDTH, HEIGHT] {
+        copies.extend(ends_of(number, slip_on_beams::<RangeEnd>));
+    }
+    for code in 1..=3 {
+        let name = format!("grade {code} unknown");
+        copies.push(slip_on_beams::<GradeUnknown>(name, code, 0, 0));
+    }
+    for code in [0, 4] {
+        let name = format!("grade {code} known");
+        copies.push(slip_on_beams::<GradeKnown>(name, code, 0, 0));
+    }
+    copies
+}
+
 pub fn copies() -> Vec<Wrong> {
     let mut copies = range_ends();
     copies.extend(codes());
@@ -102,28 +123,36 @@ pub fn copies() -> Vec<Wrong> {
 }
 
 fn range_ends() -> Vec<Wrong> {
+    (1..=CELLS)
+        .flat_map(|number| ends_of(number, slip::<RangeEnd>))
+        .collect()
+}
+
+/// How a slip becomes a copy, by whatever shows it.
+type Slip = fn(String, u64, u64, i64) -> Wrong;
+
+/// Both ends of the range of a cell, if it has one, each moved either way.
+fn ends_of(number: usize, slip: Slip) -> Vec<Wrong> {
     let mut copies = Vec::new();
-    for number in 1..=CELLS {
-        let Some(range) = Paper::range(number) else {
-            continue;
-        };
-        for by in [-1, 1] {
-            let at = number as u64;
-            if *range.start() > 0 || by > 0 {
-                copies.push(slip::<RangeEnd>(
-                    format!("least of cell {number} moved by {by}"),
-                    at,
-                    0,
-                    by,
-                ));
-            }
-            copies.push(slip::<RangeEnd>(
-                format!("greatest of cell {number} moved by {by}"),
+    let Some(range) = Paper::range(number) else {
+        return copies;
+    };
+    for by in [-1, 1] {
+        let at = number as u64;
+        if *range.start() > 0 || by > 0 {
+            copies.push(slip(
+                format!("least of cell {number} moved by {by}"),
                 at,
-                1,
+                0,
                 by,
             ));
         }
+        copies.push(slip(
+            format!("greatest of cell {number} moved by {by}"),
+            at,
+            1,
+            by,
+        ));
     }
     copies
 }

@@ -1,8 +1,8 @@
 //! One for each figure of a table and each bound between classes.
-use super::{moved, slip, SLIP};
+use super::{moved, slip, slip_on_beams, SLIP};
 use crate::evidence::Wrong;
 use lvl_second::cells::Grade;
-use lvl_second::{Paper, Rules};
+use lvl_second::{FloorRules, Paper, Rules};
 
 /// One figure of Table 7, by grade.
 struct Bending;
@@ -68,6 +68,37 @@ impl Rules for SlendernessLimit {
     fn slenderness_limit(row: u64) -> u64 {
         moved(Paper::slenderness_limit(row), row, 0)
     }
+}
+
+impl FloorRules for Bending {}
+impl FloorRules for Shear {}
+impl FloorRules for Duration {}
+impl FloorRules for Moisture {}
+
+/// Of the figures that a floor beam is judged by: bending and shear strengths, the factors of both regimes, and those of moisture.
+pub fn on_beams() -> Vec<Wrong> {
+    let mut copies = Vec::new();
+    for by in [-1, 1] {
+        for grade in [Grade::K45, Grade::K40, Grade::K35] {
+            let name = |what| format!("{what} strength of {grade:?} moved by {by}");
+            copies.push(slip_on_beams::<Bending>(
+                name("bending"),
+                grade as u64,
+                0,
+                by,
+            ));
+            copies.push(slip_on_beams::<Shear>(name("shear"), grade as u64, 0, by));
+        }
+        for code in [2, 3] {
+            let name = format!("duration factor of code {code} moved by {by}");
+            copies.push(slip_on_beams::<Duration>(name, code, 0, by));
+        }
+        for factor in [100, 90, 85, 75] {
+            let name = format!("moisture factor {factor} moved by {by}");
+            copies.push(slip_on_beams::<Moisture>(name, factor, 0, by));
+        }
+    }
+    copies
 }
 
 pub fn copies() -> Vec<Wrong> {
