@@ -2,7 +2,7 @@
 -- Assumes nothing.
 use mathlib.Core.Path.{_≡_, refl, sym, ap, ap₂, _∙_}
 use mathlib.Core.List.{List, [], _∷_, _++_, append-nil, append-assoc}
-use Prim.Native.Nat.{ℕ, zero, suc, _+_, _*_, _/_, _%_, _^_, _<_}
+use Prim.Native.Nat.{ℕ, zero, suc, _+_, _*_, _/_, _%_, _^_, _≤_, _<_}
 use native.Mathlib.Numerals.{add-one}
 use native.Mathlib.Omega.{arith}
 use lib.ListN.{length, getD, take, set, length-append, length-take}
@@ -11,7 +11,7 @@ use lib.Ieee.{Float, nan, binary64, toBits}
 use borrow.Rule.Slice.PartMut.{putMid, postOf}
 use Rattle.cells.specs.HostBytes.{wordBytes, floatBytes, wholeFloat}
 use Rattle.cells.proofs.FloatLaws.{whole-not-nan}
-use Rattle.worksheet.specs.HostAnswer.{floatsBytes, NoNans}
+use Rattle.worksheet.specs.HostAnswer.{floatsBytes, wholeFloats, Lossless, NoNans}
 use Rattle.worksheet.proofs.FloatsMeaning.{no-nans-end, no-nans-then}
 
 pub word-bytes-length : (n w : ℕ) → length (wordBytes n w) ≡ n
@@ -45,6 +45,20 @@ floats-step l ys xs i k h whole before e =
     ∙ take-at (take (8 * i) l ++ ys) (postOf (8 * i) k l) (8 * (i + 1)) (omega (arith, length-append (take (8 * i) l) ys, length-take (8 * i) l))
     ∙ ap₂ (λ (p q : List ℕ). p ++ q) before e
     ∙ rw add-one (sym (floats-next xs i h))
+
+-- ---- whole numbers as floats
+
+-- the float in a place is that of the number there
+pub whole-float-at : (numbers : List ℕ) (i : ℕ) → i < length numbers → getD (wholeFloats numbers) i nan ≡ wholeFloat (getD numbers i 0)
+whole-float-at [] i h = absurd (omega arith)
+whole-float-at (n ∷ numbers) zero h = refl
+whole-float-at (n ∷ numbers) (suc i) h = whole-float-at numbers i (omega arith)
+
+-- each of them is held without loss
+pub lossless-at : (numbers : List ℕ) (i : ℕ) → Lossless numbers → i < length numbers → getD numbers i 0 ≤ 2 ^ 53
+lossless-at [] i all h = absurd (omega arith)
+lossless-at (n ∷ numbers) zero all h = all .0
+lossless-at (n ∷ numbers) (suc i) all h = lossless-at numbers i (all .1) (omega arith)
 
 -- ---- the answer's three
 

@@ -9,7 +9,7 @@ ghost use lib.Ieee.{isNan};
 ghost use lib.ListN.{length};
 ghost use Rattle.cells.specs.HostBytes.{wordBytes, floatBytes, wholeFloat};
 ghost use Rattle.cells.specs.Refusal.{resultOf};
-ghost use Rattle.worksheet.specs.HostAnswer.{floatsResult, floatsBuffer, NoNans};
+ghost use Rattle.worksheet.specs.HostAnswer.{floatsResult, floatsBuffer, wholeFloats, Lossless, NoNans};
 
 // A whole number as a float. Up to 2^53 nothing is lost.
 pub fn whole_float(n: u64) -> f64
@@ -57,6 +57,28 @@ pub fn write_floats(out: &mut [u8], floats: &[f64]) -> Outcome
         let start = 8 * i;
         let end = start + 8;
         put_float(&mut out[start..end], floats[i]);
+        i = i + 1;
+    }
+    Outcome::Done
+}
+
+// Fills lent bytes with whole numbers as floats, eight bytes each; refuses another length and writes nothing.
+pub fn write_numbers(out: &mut [u8], numbers: &[u64]) -> Outcome
+    requires { ⌜ Lossless (now numbers) ⌝ }
+    ensures result { λ r. ⌜ resultOf r tt ≡ floatsResult (length (now (numbers .entry))) (length (now (out .entry))) ⌝ }
+    ensures buffer { λ _. ⌜ now (out .exit) ≡ floatsBuffer (wholeFloats (now (numbers .entry))) (now (out .entry)) ⌝ }
+{
+    if out.len() % 8 != 0 {
+        return Outcome::Refused(Refusal::BufferSize);
+    }
+    if out.len() / 8 != numbers.len() {
+        return Outcome::Refused(Refusal::BufferSize);
+    }
+    let mut i: usize = 0;
+    while i < numbers.len() {
+        let start = 8 * i;
+        let end = start + 8;
+        put_float(&mut out[start..end], whole_float(numbers[i]));
         i = i + 1;
     }
     Outcome::Done

@@ -2,23 +2,20 @@
 -- Assumes nothing.
 use Prim.Native.Nat.{ℕ, _+_, _*_}
 use mathlib.Core.Bool.{Bool, true, false, not, cond}
-use mathlib.Core.List.{List, [], _∷_}
+use mathlib.Core.List.{List}
 use mathlib.Core.Path.{_≡_, refl}
 use borrow.Author.Tests.{eq-eqb, ne-eqb}
-use lib.Dec.{T, eqb}
-use lib.Ieee.{Float, isNan}
+use lib.Dec.{eqb}
 use lib.ListN.{length}
-use Rattle.cells.specs.HostBytes.{wholeFloat}
 use Rattle.cells.specs.Lowest.{lowest}
 use Rattle.cells.specs.Refusal.{gives, refuses, refusedBy, refusalCode, andThen}
 use Rattle.cells.specs.declared.refusal.Refusal.{Refusal}
 use Rattle.cells.specs.declared.row.Cell.{Cell}
-use Rattle.worksheet.specs.HostAnswer.{floatsResult, floatsBuffer, wholeFloats, NoNans}
+use Rattle.worksheet.specs.HostAnswer.{floatsResult, floatsBuffer, wholeFloats}
 use Rattle.worksheet.specs.Reading.{readCell, isUnreadable, cellRead, lowestUnreadable}
 use Rattle.worksheet.specs.declared.host_cell.Reading.{Reading}
 use Rattle.worksheet.specs.declared.own_cell.OwnNumber.{OwnNumber}
 use Rattle.worksheet.specs.declared.own_cell.OwnNumber.the-variants.{Given}
-use Rattle.worksheet.proofs.FloatsMeaning.{no-nans-end, no-nans-then}
 use Rattle.worksheet.proofs.ReadingLaws.{asRead}
 use Rattle.floorrules.specs.FloorBeam.{acceptLoading, floorBeam}
 use Rattle.floorrules.specs.HostBeam.{beamCellAt, loadingOf, hostLoading, hostCellsOfRow, beamCellsOf, hostBeamCells, beamNumbers, hostFloorBeam, beamPassOrFail, beamReturns, beamLeaves}
@@ -70,20 +67,6 @@ module _ (beam : List ℕ) where
       by false = refl
 
 -- ---- the answer
-
--- the floats that were made are those of the verdict's numbers
-pub six-floats : (v : BeamVerdict) {a b c d e f : Float} → a ≡ wholeFloat (v .verdict .utilisation) → b ≡ wholeFloat (v .verdict .count) → c ≡ wholeFloat (v .verdict .check)
-    → d ≡ wholeFloat (v .regime) → e ≡ wholeFloat (v .moment) → f ≡ wholeFloat (v .shear)
-    → a ∷ b ∷ c ∷ d ∷ e ∷ f ∷ [] ≡ wholeFloats (beamNumbers v)
-six-floats v p q r s t u = rw (p, q, r, s, t, u)
-
--- and none of them is a NaN
-pub six-numbers : (a b c d e f : Float) → T (not (isNan a)) → T (not (isNan b)) → T (not (isNan c)) → T (not (isNan d)) → T (not (isNan e)) → T (not (isNan f))
-    → NoNans (a ∷ b ∷ c ∷ d ∷ e ∷ f ∷ [])
-six-numbers a b c d e f p q r s t u =
-    no-nans-then a (b ∷ c ∷ d ∷ e ∷ f ∷ []) p
-    (no-nans-then b (c ∷ d ∷ e ∷ f ∷ []) q
-    (no-nans-then c (d ∷ e ∷ f ∷ []) r (no-nans-then d (e ∷ f ∷ []) s (no-nans-then e (f ∷ []) t (no-nans-then f [] u no-nans-end)))))
 
 -- a verdict in an answer of another length, and of the right one
 module _ (v : BeamVerdict) (answer : List ℕ) where

@@ -1,6 +1,5 @@
 // A floor beam's verdict as the host gets it: six floats in 48 lent bytes.
-use answer::floats::whole_float;
-use answer::floats::write_floats;
+use answer::floats::write_numbers;
 use cells::refusal::Outcome;
 use cells::refusal::refusal_code;
 use floorrules::answer::BeamRefusal;
@@ -29,15 +28,15 @@ pub(crate) fn answer_beam_verdict(v: BeamVerdict, answer: &mut [u8]) -> u64
 {
     let verdict = v.verdict;
     let passes = verdict.passes;
-    let floats = [
-        whole_float(verdict.utilisation as u64),
-        whole_float(verdict.count as u64),
-        whole_float(verdict.check as u64),
-        whole_float(v.regime as u64),
-        whole_float(v.moment),
-        whole_float(v.shear),
+    let numbers = [
+        verdict.utilisation as u64,
+        verdict.count as u64,
+        verdict.check as u64,
+        v.regime as u64,
+        v.moment,
+        v.shear,
     ];
-    let written = write_floats(answer, &floats);
+    let written = write_numbers(answer, &numbers);
     match written {
         Outcome::Refused(refusal) => refusal_code(refusal),
         Outcome::Done => if passes { 0 } else { 1 },

@@ -1,6 +1,6 @@
 -- Floats in lent bytes, any number of them; and the answer of a check as the host gets it: three floats in 24 bytes.
 -- Assumes nothing.
-use Prim.Native.Nat.{ℕ, _*_, _<_}
+use Prim.Native.Nat.{ℕ, _*_, _^_, _≤_, _<_}
 use mathlib.Core.Bool.{cond, not}
 use mathlib.Core.List.{List, [], _∷_, _++_, map}
 use lib.Dec.{T, eqb}
@@ -27,7 +27,12 @@ floatsBuffer floats buffer = whereGiven (floatsResult (length floats) (length bu
 abbrev pub wholeFloats : List ℕ → List Float
 wholeFloats numbers = map wholeFloat numbers
 
--- none of them is a NaN, whose bits the language does not define
+-- each is at most 2^53, so that a float holds it without loss
+abbrev pub Lossless : List ℕ → Type 0
+Lossless [] = Unit {0}
+Lossless (n ∷ numbers) = (n ≤ 2 ^ 53) × Lossless numbers
+
+-- none of the floats is a NaN, whose bits the language does not define
 abbrev pub NoNans : List Float → Type 0
 NoNans floats = (i : ℕ) → i < length floats → T (not (isNan (getD floats i nan)))
 
