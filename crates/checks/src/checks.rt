@@ -51,7 +51,8 @@ pub fn tension_resistance(b: u64, h: u64, material: Material) -> u64
     requires { ⌜ Section b h × MaterialRanges material ⌝ }
     ensures { λ r. ⌜ Value InNR (NR Tension b h material) r ⌝ }
 {
-    axial_capacity(b, h, design_strength(Stress::Tension, material))
+    let r = design_strength(Stress::Tension, material);
+    axial_capacity(b, h, r.strength)
 }
 
 // NR in compression.
@@ -59,7 +60,8 @@ pub fn compression_resistance(b: u64, h: u64, material: Material) -> u64
     requires { ⌜ Section b h × MaterialRanges material ⌝ }
     ensures { λ r. ⌜ Value InNR (NR Compression b h material) r ⌝ }
 {
-    axial_capacity(b, h, design_strength(Stress::Compression, material))
+    let r = design_strength(Stress::Compression, material);
+    axial_capacity(b, h, r.strength)
 }
 
 // MR.
@@ -67,7 +69,8 @@ pub fn moment_resistance(b: u64, h: u64, material: Material) -> u64
     requires { ⌜ Section b h × MaterialRanges material ⌝ }
     ensures { λ r. ⌜ Value InMR (MR b h material) r ⌝ }
 {
-    bending_capacity(b, h, design_strength(Stress::Bending, material))
+    let r = design_strength(Stress::Bending, material);
+    bending_capacity(b, h, r.strength)
 }
 
 // Check 8.
@@ -76,7 +79,7 @@ pub fn shear_check(q: u64, b: u64, h: u64, material: Material) -> Governing
     ensures { λ r. ⌜ r ≡ record { check = 8; utilisation = utilisation q (shearCapacity b h (designStrength Shear material)) } ⌝ }
 {
     let r = design_strength(Stress::Shear, material);
-    against(8, q, shear_capacity(b, h, r))
+    against(8, q, shear_capacity(b, h, r.strength))
 }
 
 // Checks 9 and 10, with nr in compression.

@@ -4,10 +4,10 @@ use mathlib.Core.Path.{_≡_, refl}
 use Rattle.cells.specs.Greatest.{greatest}
 use Rattle.cells.specs.Lowest.{lowest}
 use Rattle.cells.specs.Refusal.{gives}
-use Rattle.rounding.specs.Fraction.{fraction, whole, _⊕_}
+use Rattle.rounding.specs.Fraction.{fraction, whole, SameValue, _⊕_}
 use Rattle.member.specs.Acceptance.{acceptKind}
 use Rattle.member.specs.Verdict.{judgeBy}
-use Rattle.worked.specs.Cases.{SameValue, All}
+use Rattle.worked.specs.Cases.{All}
 use Rattle.worked.proofs.Worked.{_and_, same}
 use Rattle.floorrules.specs.FloorBeam.{floorBeam}
 use Rattle.floorrules.specs.Loads.{exactMomentOf, exactShearOf}

@@ -10,18 +10,22 @@ use lib.Dec.{leb, eqb, lit<, lit≤}
 use lib.ListN.{length, getD, List·getD-map}
 use Rattle.rounding.specs.Range.{In}
 use Rattle.cells.specs.Refusal.{Result, gives, refuses}
-use Rattle.cells.specs.Row.{cellCount}
+use Rattle.cells.specs.Row.{cellCount, cellsOf}
 use Rattle.cells.specs.declared.row.Cell.{Cell}
 use Rattle.cells.specs.declared.row.Cell.the-variants.{Blank, Whole}
+use Rattle.cells.specs.declared.row.Row.{Row}
 use Rattle.cells.proofs.LowestLaws.{lowest-none, lowest-of-passing}
+use Rattle.cells.proofs.RowLaws.{cell-at}
 use Rattle.sp64.specs.Joint.{JointRanges}
+use Rattle.sp64.specs.Strength.{materialOf}
 use Rattle.sp64.specs.Tables.{slendernessLimit}
+use Rattle.sp64.specs.declared.strength.Material.{Material}
 use Rattle.sp64.proofs.StrengthLaws.{material-known}
 use Rattle.sp64.proofs.TableLaws.{limit-in}
 use Rattle.member.specs.Acceptance.{begins, misfilled, unknownCode, outOfRange, lowestCell, isBegun, unlessRefused, acceptKind, acceptCode, acceptFirst, accept}
 use Rattle.member.specs.Cells.{filled, valueOf, within, required, wanted, optional, knownCode, compressed, ranges, inRange}
 use Rattle.member.specs.Kind.{kindOf}
-use Rattle.member.specs.Member.{valuesOf, memberOf, jointOf}
+use Rattle.member.specs.Member.{valuesOf, valueAt, memberOf, jointOf}
 use Rattle.member.specs.Ranges.{RangesOf}
 use Rattle.member.specs.declared.kind.Kind.{Kind}
 use Rattle.member.specs.declared.kind.Kind.the-variants.{Tension, Bending, Compression, CompressionBending, TensionBending}
@@ -223,6 +227,26 @@ accepted-member kind cells m =
 
     given : gives here ≡ gives m → m ≡ here
     given e = cc
+
+-- the value in a place is that of the cell in the slot there
+pub slot-value : (row : Row) (i : ℕ) → getD (valuesOf (cellsOf row)) i 0 ≡ valueOf (getD (row .cells) i (record { cell = Blank }) .cell)
+slot-value row i = List·getD-map valueOf (cellsOf row) i Blank ∙ ap valueOf (cell-at row i)
+
+-- the material of an accepted row follows from cells 2 to 5
+pub accepted-material : (cells : List Cell) (m : Member) → accept cells ≡ gives m
+    → m .material ≡ materialOf (valueAt (valuesOf cells) 2) (valueAt (valuesOf cells) 3) (valueAt (valuesOf cells) 4) (valueAt (valuesOf cells) 5)
+accepted-material cells m = by (getD cells 0 Blank)
+  where
+    here : Material
+    here = materialOf (valueAt (valuesOf cells) 2) (valueAt (valuesOf cells) 3) (valueAt (valuesOf cells) 4) (valueAt (valuesOf cells) 5)
+
+    by-code : (code : KindCode) → acceptCode code cells ≡ gives m → m .material ≡ here
+    by-code Unknown e = absurd (let z : _≡_ {A = ℕ} 0 1 = cc in omega arith)
+    by-code (Known kind) e = ap (λ (m : Member). m .material) (accepted-member kind cells m e)
+
+    by : (first : Cell) → acceptFirst first cells ≡ gives m → m .material ≡ here
+    by Blank e = absurd (let z : _≡_ {A = ℕ} 0 1 = cc in omega arith)
+    by (Whole code) e = by-code (kindOf code) e
 
 -- what a result of acceptance promises: a member that keeps its ranges
 abbrev RangesKept : Result Member → Type 0

@@ -1,6 +1,7 @@
 -- Exact values: fractions of whole numbers, compared by cross multiplication. A fraction stands for a value where its denominator is above zero.
 -- Assumes nothing.
 use Prim.Native.Nat.{ℕ, _+_, _-_, _*_, _≤_, _<_}
+use mathlib.Core.Path.{_≡_}
 
 infixl 70 _⊗_ _⊘_
 infixl 65 _⊕_ _⊖_
@@ -39,6 +40,12 @@ x ≼ y = x .num * y .den ≤ y .num * x .den
 -- x < y
 abbrev pub _≺_ : Fraction → Fraction → Type 0
 x ≺ y = x .num * y .den < y .num * x .den
+
+-- two fractions stand for one value: denominators above zero, and equal cross products
+pub record SameValue (x y : Fraction) : Type 0 where
+  pub real : 0 < x .den
+  pub written : 0 < y .den
+  pub cross : x .num * y .den ≡ y .num * x .den
 
 -- a force times k thousandths
 abbrev pub scaled : ℕ → Fraction → Fraction

@@ -117,9 +117,13 @@ fn judge_joint(m: Member) -> Verdict
     let net = against(
         5,
         m.force,
-        net_tension_capacity(m.width, m.height, m.joint, r),
+        net_tension_capacity(m.width, m.height, m.joint, r.strength),
     );
-    let side = against(6, m.force, side_piece_capacity(m.height, m.joint, r));
+    let side = against(
+        6,
+        m.force,
+        side_piece_capacity(m.height, m.joint, r.strength),
+    );
     by_strength(greater(net, side), count as u32)
 }
 

@@ -1,5 +1,6 @@
 pub mod TableLaws
 pub mod StrengthLaws
+pub mod StrengthMeaning
 pub mod PhiLaws
 pub mod CapacityLaws
 pub mod CombinedLaws

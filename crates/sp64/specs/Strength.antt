@@ -1,6 +1,6 @@
--- The design strength R of a stress, in kPa, rounded down and exact.
+-- The design strength R of a stress, in kPa: rounded down, what the rounding drops, and exact.
 -- Assumes nothing.
-use Prim.Native.Nat.{ℕ, _*_, _<_}
+use Prim.Native.Nat.{ℕ, _*_, _%_, _<_}
 use Rattle.rounding.specs.Rounding.{down}
 use Rattle.rounding.specs.Fraction.{Fraction, whole, _⊘_}
 use Rattle.sp64.specs.declared.tables.Stress.{Stress}
@@ -28,6 +28,10 @@ undivided value m = value * m .duration * m .moisture * m .office
 -- R = (table value × t × w × o) / 10,000,000, down
 abbrev pub designStrength : Stress → Material → ℕ
 designStrength stress m = down (undivided (tableStrength stress (m .grade)) m) 10000000
+
+-- request 2: the remainder of that division, in ten-millionths of a kPa
+abbrev pub strengthRemainder : Stress → Material → ℕ
+strengthRemainder stress m = undivided (tableStrength stress (m .grade)) m % 10000000
 
 -- R, unrounded
 abbrev pub exactStrength : Stress → Material → Fraction

@@ -5,11 +5,11 @@ use mathlib.Core.Path.{_≡_, refl}
 use lib.Dec.{T, ltb, lit<}
 use Rattle.cells.specs.Greatest.{greatest}
 use Rattle.cells.specs.Lowest.{lowest}
-use Rattle.rounding.specs.Fraction.{Fraction}
+use Rattle.rounding.specs.Fraction.{Fraction, SameValue}
 use Rattle.packed.proofs.Sizes.{blank-row}
 use Rattle.member.specs.Acceptance.{acceptKind}
 use Rattle.member.specs.Verdict.{judgeBy}
-use Rattle.worked.specs.Cases.{SameValue, All}
+use Rattle.worked.specs.Cases.{All}
 use Rattle.worked.specs.Table.{table}
 
 infixr 40 _and_

@@ -1,6 +1,6 @@
 -- What a case of the table of worked rows is, and what it says.
 -- Assumes nothing.
-use Prim.Native.Nat.{ℕ, _*_, _<_}
+use Prim.Native.Nat.{ℕ}
 use mathlib.Core.Path.{_≡_}
 use mathlib.Core.Bool.{true, false}
 use mathlib.Core.List.{List, [], _∷_}
@@ -8,7 +8,7 @@ use lib.ListN.{length}
 use Rattle.cells.specs.Refusal.{Result, gives, refuses}
 use Rattle.cells.specs.Row.{cellCount}
 use Rattle.cells.specs.declared.row.Cell.{Cell}
-use Rattle.rounding.specs.Fraction.{Fraction}
+use Rattle.rounding.specs.Fraction.{Fraction, SameValue}
 use Rattle.packed.specs.Packing.{packed}
 use Rattle.member.specs.Acceptance.{accept}
 use Rattle.member.specs.Verdict.{checkRow}
@@ -33,12 +33,6 @@ pass check utilisation count = record { passes = true; check = check; utilisatio
 -- a fail, in the same order
 abbrev pub fail : ℕ → ℕ → ℕ → Verdict
 fail check utilisation count = record { passes = false; check = check; utilisation = utilisation; count = count }
-
--- two fractions stand for one value: denominators above zero, and equal cross products
-pub record SameValue (x y : Fraction) : Type 0 where
-  pub real : 0 < x .den
-  pub written : 0 < y .den
-  pub cross : x .num * y .den ≡ y .num * x .den
 
 -- a result is no refusal, and P is true of its value
 abbrev pub Given : {A : Type 0} → (A → Type 0) → Result A → Type 0

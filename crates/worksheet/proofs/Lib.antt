@@ -9,3 +9,4 @@ pub mod AnswerMeaning
 pub mod RefusalNumbers
 pub mod HostDemand
 pub mod EntryMeaning
+pub mod StrengthsMeaning

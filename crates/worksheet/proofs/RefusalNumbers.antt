@@ -10,6 +10,7 @@ use lib.ListN.{length, getD}
 use borrow.Author.Tests.{lt-ltb}
 use Rattle.rounding.specs.Range.{In}
 use Rattle.rounding.proofs.Ranges.{in-wide}
+use Rattle.worksheet.specs.HostAnswer.{floatsResult}
 use Rattle.worksheet.specs.HostRow.{hostCellBytes, hostCellsAt, readHostRow}
 use Rattle.cells.specs.Lowest.{lowest}
 use Rattle.worksheet.specs.Reading.{readCell, isUnreadable, lowestUnreadable, readCells}
@@ -84,21 +85,24 @@ module _ (cells : List Cell) (whole : length cells ≡ cellCount) where
       by Blank = (within 2 4 2 (omega arith) (omega arith), omega arith)
       by (Whole code) = by-code (kindOf code)
 
--- the test of the answer's length refuses with 5
-pub answer-numbered : (room : ℕ) (verdict : Verdict) → Numbered 5 5 (answered room verdict)
-answer-numbered room verdict = by (eqb room 24)
+-- the test of the answer's length refuses with 5, for any number of floats
+pub floats-numbered : {A : Type 0} (count room : ℕ) (value : A) → Numbered 5 5 (andThen (floatsResult count room) (λ (given : Unit {0}). gives value))
+floats-numbered {A} count room value = by (eqb room (8 * count))
   where
-    by : (t : Bool) → Numbered 5 5 (andThen (cond t (gives tt) (refuses 5 0)) (λ (given : Unit {0}). gives verdict))
+    by : (t : Bool) → Numbered 5 5 (andThen (cond t (gives tt) (refuses 5 0)) (λ (given : Unit {0}). gives value))
     by true = tt
     by false = (within 5 5 5 (omega arith) (omega arith), omega arith)
 
+pub answer-numbered : (room : ℕ) (verdict : Verdict) → Numbered 5 5 (answered room verdict)
+answer-numbered room verdict = floats-numbered 3 room verdict
+
 -- what comes after an operation that gives a value; a refusal of wider numbers
-then-numbered : {A B : Type 0} (lo hi : ℕ) (result : Result A) (next : A → Result B) → Numbered lo hi result → ((value : A) → result ≡ gives value → Numbered lo hi (next value))
+pub then-numbered : {A B : Type 0} (lo hi : ℕ) (result : Result A) (next : A → Result B) → Numbered lo hi result → ((value : A) → result ≡ gives value → Numbered lo hi (next value))
     → Numbered lo hi (andThen result next)
 then-numbered lo hi (gives value) next here later = later value refl
 then-numbered lo hi (refuses number cell) next here later = here
 
-wide-numbered : {A : Type 0} (lo hi : ℕ) {lo′ hi′ : ℕ} (result : Result A) → lo ≤ lo′ → hi′ ≤ hi → Numbered lo′ hi′ result → Numbered lo hi result
+pub wide-numbered : {A : Type 0} (lo hi : ℕ) {lo′ hi′ : ℕ} (result : Result A) → lo ≤ lo′ → hi′ ≤ hi → Numbered lo′ hi′ result → Numbered lo hi result
 wide-numbered lo hi (gives value) l h here = tt
 wide-numbered lo hi (refuses number cell) l h here = (in-wide lo hi l h (here .0), here .1)
 

@@ -4,3 +4,5 @@ pub mod HostRow
 pub mod OwnCell
 pub mod HostAnswer
 pub mod Entries
+pub mod Strengths
+pub mod WorkedStrengths

@@ -2,6 +2,7 @@
 use crate::answer::{Refusal, Verdict};
 use crate::floor_beam::{host_beam_bytes, BeamVerdict, HostBeam, BEAM_ANSWER_BYTES};
 use crate::row::{host_bytes, HostRow, ANSWER_BYTES, PACKED_BYTES};
+use crate::strengths::{Strength, Strengths, STRENGTHS_BYTES};
 
 mod c {
     extern "C" {
@@ -15,6 +16,12 @@ mod c {
         pub fn lvl_check_floor_beam(
             beam: *const u8,
             beam_len: usize,
+            answer: *mut u8,
+            answer_len: usize,
+        ) -> u64;
+        pub fn lvl_strengths(
+            row: *const u8,
+            row_len: usize,
             answer: *mut u8,
             answer_len: usize,
         ) -> u64;
@@ -37,6 +44,12 @@ pub fn pack_bytes(row: &[u8], out: &mut [u8]) -> u64 {
 pub fn check_floor_beam_bytes(beam: &[u8], answer: &mut [u8]) -> u64 {
     // As above.
     unsafe { c::lvl_check_floor_beam(beam.as_ptr(), beam.len(), answer.as_mut_ptr(), answer.len()) }
+}
+
+/// `lvl_strengths`, for bytes of any length: 0, or 1000 × refusal number + cell.
+pub fn strengths_bytes(row: &[u8], answer: &mut [u8]) -> u64 {
+    // As above.
+    unsafe { c::lvl_strengths(row.as_ptr(), row.len(), answer.as_mut_ptr(), answer.len()) }
 }
 
 /// The verdict on a row of cells, or why it is refused.
@@ -96,5 +109,33 @@ pub fn beam_verdict(passes: bool, answer: &[u8; BEAM_ANSWER_BYTES]) -> BeamVerdi
         regime: float_at(answer, 24) as u32,
         moment: float_at(answer, 32) as u64,
         shear: float_at(answer, 40) as u64,
+    }
+}
+
+/// The design strengths of a row of cells, or why it is refused.
+pub fn strengths(cells: &HostRow) -> Result<Strengths, Refusal> {
+    let mut answer = [0; STRENGTHS_BYTES];
+    let code = strengths_bytes(&host_bytes(cells), &mut answer);
+    match Refusal::from_code(code) {
+        Some(refusal) => Err(refusal),
+        None => Ok(strengths_held(&answer)),
+    }
+}
+
+/// The strengths that an answer's bytes stand for.
+pub fn strengths_held(answer: &[u8; STRENGTHS_BYTES]) -> Strengths {
+    Strengths {
+        bending: strength_at(answer, 0),
+        compression: strength_at(answer, 16),
+        tension: strength_at(answer, 32),
+        shear: strength_at(answer, 48),
+    }
+}
+
+/// The strength whose two floats start at a place.
+fn strength_at(answer: &[u8], at: usize) -> Strength {
+    Strength {
+        kpa: float_at(answer, at) as u32,
+        remainder: float_at(answer, at + 8) as u32,
     }
 }

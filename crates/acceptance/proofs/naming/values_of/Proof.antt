@@ -1,17 +1,16 @@
 -- `values_of` meets its contract: up to the cell that the loop has come to, every value is stored.
 -- Assumes nothing.
-use mathlib.Core.Path.{_≡_, refl, sym, ap, _∙_}
-use Prim.Native.Nat.{ℕ, _-_, _≤_}
+use mathlib.Core.Path.{_≡_, refl, sym, _∙_}
+use Prim.Native.Nat.{_-_, _≤_}
 use native.Mathlib.Omega.{arith}
 use borrow.Author.Needs.{needs}
-use lib.ListN.{length, getD, take, length-set, length-map, List·getD-map}
+use lib.ListN.{length, take, length-set, length-map}
 use Rattle.cells.specs.Row.{cellCount, cellsOf}
-use Rattle.cells.specs.declared.row.Cell.the-variants.{Blank}
-use Rattle.cells.specs.declared.row.Row.{Row}
 use Rattle.cells.proofs.FillLaws.{fill-step, fill-end}
-use Rattle.cells.proofs.RowLaws.{cell-at, length-cells}
+use Rattle.cells.proofs.RowLaws.{length-cells}
 use Rattle.member.specs.Cells.{valueOf}
 use Rattle.member.specs.Member.{valuesOf}
+use Rattle.member.proofs.AcceptanceLaws.{slot-value}
 use Rattle.acceptance.proofs.naming.values_of.Statement.{statement}
 use Rattle.acceptance.proofs.naming.values_of.Tie as tie
 
@@ -27,10 +26,6 @@ all-values : (c : tie.At-loop Inv-loop μ-loop) → length (valuesOf (cellsOf (c
 all-values c =
     let row = c .before .before .args .row in
     length-map (cellsOf row) valueOf ∙ length-cells row (sym (length-map (row .cells) _) ∙ c .before .before .good .0 .1 .1 .0 .1 .0 .1)
-
--- the value at a place is that of the cell in the slot there
-value-at : (row : Row) (i : ℕ) → getD (valuesOf (cellsOf row)) i 0 ≡ valueOf (getD (row .cells) i (record { cell = Blank }) .cell)
-value-at row i = List·getD-map valueOf (cellsOf row) i Blank ∙ ap valueOf (cell-at row i)
 
 loop-holds : tie.Need-loop-holds Inv-loop μ-loop
 loop-holds c = (omega arith, refl, refl)
@@ -64,7 +59,7 @@ loop-again c =
     let i = l .loop .i in (
       omega arith,
       length-set values i _ ∙ l .loop .inv .1,
-      fill-step values (valuesOf (cellsOf row)) i _ 0 (omega arith) (omega (arith, all-values l)) (l .loop .inv .2) (value-at row i ∙ sym (c .value-of .ensures)),
+      fill-step values (valuesOf (cellsOf row)) i _ 0 (omega arith) (omega (arith, all-values l)) (l .loop .inv .2) (slot-value row i ∙ sym (c .value-of .ensures)),
     )
 
 returns : tie.Need-returns Inv-loop μ-loop

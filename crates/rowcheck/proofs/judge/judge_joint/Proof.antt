@@ -70,9 +70,9 @@ returns-2 c =
     (c .by-strength .ensures
     ∙ ap₂ byStrength
     (next-governs _ _ {x = net .against .result} refl
-    (rw (jointed, ← (net .before .before .design-strength .ensures .exact), ← (net .before .net-tension-capacity .ensures .exact)) (net .against .ensures)) _
+    (rw (jointed, ← (net .before .before .design-strength .ensures .0 .exact), ← (net .before .net-tension-capacity .ensures .exact)) (net .against .ensures)) _
     (only _ _ {x = c .before .before .against2 .result} (ap not jointed)
-    (rw (← (net .before .before .design-strength .ensures .exact), ← (c .before .before .before .side-piece-capacity .ensures .exact)) (c .before .before .against2 .ensures)))
+    (rw (← (net .before .before .design-strength .ensures .0 .exact), ← (c .before .before .before .side-piece-capacity .ensures .exact)) (c .before .before .against2 .ensures)))
     (c .before .greater .ensures))
     (counted count))
 
