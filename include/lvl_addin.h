@@ -1,10 +1,12 @@
 /*
  * lvl_addin.h - checks of LVL members and steel dowel joints to SP 64.13330.
  *
- * Three entries over bytes that the host lends:
+ * Four entries over bytes that the host lends:
  *
  *   lvl_check_row         judges one member: pass or fail, the check that
  *                         governs, its utilisation, the dowels of the joint
+ *   lvl_strengths         gives the design strengths of a member, each with
+ *                         what rounding it down dropped
  *   lvl_pack_row          packs one member's cells into at most 97 bytes
  *   lvl_check_floor_beam  judges a floor beam by its loads and span
  *
@@ -92,6 +94,29 @@
  * check of greatest utilisation is named, the lowest number among equals.
  *
  *
+ * THE STRENGTHS
+ *
+ * A design strength is R = value of Table 7 * t * w * o / 10000000, in kPa
+ * (1 kPa is 0.001 N/mm2), rounded down: t and w in hundredths follow from
+ * regime and moisture, o is the office factor in thousandths. The checks use
+ * R so rounded. The answer is eight doubles in 64 bytes, each lowest byte
+ * first, all whole numbers:
+ *
+ *   bytes  0 to  7   bending, R rounded down, kPa        used in checks 7, 11
+ *   bytes  8 to 15   bending, the remainder
+ *   bytes 16 to 23   compression, R rounded down, kPa    9, 10, 11 of kind 4
+ *   bytes 24 to 31   compression, the remainder
+ *   bytes 32 to 39   tension, R rounded down, kPa        5, 6, 11 of kind 5
+ *   bytes 40 to 47   tension, the remainder
+ *   bytes 48 to 55   shear, R rounded down, kPa          8
+ *   bytes 56 to 63   shear, the remainder
+ *
+ * A remainder is what the division by 10000000 leaves, 0 to 9999999: R is the
+ * first number plus remainder / 10000000, exactly, which has seven decimals at
+ * most. All four are given for a row of any kind; they follow from cells 2 to 5
+ * alone.
+ *
+ *
  * THE FLOOR BEAM
  *
  * A beam on two supports under an even load, typed by its loads. As bytes it is
@@ -133,20 +158,20 @@
  * all. The cell is 0 where no cell of a row is to blame. What is tested comes
  * in this order, and the first to be found is returned:
  *
- *   lvl_check_row and lvl_pack_row:
+ *   lvl_check_row, lvl_strengths and lvl_pack_row:
  *   1  unreadable: the row is not 198 bytes long (cell 0)
  *   1  unreadable: the lowest cell whose first byte is neither 0 nor 1, or that
  *      is filled with anything but a whole number from 0 to 17179869183
  *      (negative, fraction, infinity, NaN; -0 reads as 0)
  *
- *   lvl_check_row then:
+ *   lvl_check_row and lvl_strengths then:
  *   2  cell 1 is blank
  *   3  cell 1 is not a known kind
  *   2  misfilled: the lowest cell that is blank but needed by the kind or by a
  *      joint begun, or filled but not for the kind
  *   3  unknown code: the lowest of cells 2, 3 and 13
  *   4  out of range: the lowest of all other cells
- *   5  the answer is not 24 bytes long (cell 0)
+ *   5  the answer is not 24 bytes long, that of strengths not 64 (cell 0)
  *
  *   lvl_pack_row then:
  *   5  the row takes more bytes than are lent (cell 0)
@@ -182,9 +207,9 @@
  * Windows or macOS (other object files and conventions), on ARM, or in 32-bit
  * programs.
  *
- * Stack: lvl_check_row 856 bytes, lvl_pack_row 1,384 bytes,
- * lvl_check_floor_beam 832 bytes. No heap, no system call, no lock, and no
- * data of its own that it writes.
+ * Stack: lvl_check_row 856 bytes, lvl_strengths 904 bytes, lvl_pack_row 1,384
+ * bytes, lvl_check_floor_beam 808 bytes. No heap, no system call, no lock, and
+ * no data of its own that it writes.
  *
  * Threads: any number may call at once, each with a buffer of its own to write
  * to. Nothing is kept between calls.
@@ -245,6 +270,9 @@
  *
  * It prints: pass, check 7, utilisation 690668, dowels 0
  *
+ * lvl_strengths takes the same row, and an answer of LVL_STRENGTHS_BYTES, which
+ * holds eight doubles.
+ *
  * A floor beam is filled and called in the same way: fill(beam, place, number)
  * with places 1 to 8 in a beam of LVL_BEAM_BYTES, and an answer of
  * LVL_BEAM_ANSWER_BYTES, which holds six doubles.
@@ -263,6 +291,7 @@ extern "C" {
 #define LVL_CELLS 22
 #define LVL_ROW_BYTES 198
 #define LVL_ANSWER_BYTES 24
+#define LVL_STRENGTHS_BYTES 64
 #define LVL_PACKED_BYTES_MAX 97
 #define LVL_PACKED_BYTES_MIN 3
 #define LVL_BEAM_CELLS 8
@@ -272,6 +301,12 @@ extern "C" {
 /* What a check returns for a row or a floor beam that is not refused. */
 #define LVL_PASS 0
 #define LVL_FAIL 1
+
+/* What lvl_strengths returns for a row that is not refused. */
+#define LVL_GIVEN 0
+
+/* A remainder of lvl_strengths counts parts of a kPa: so many are one. */
+#define LVL_STRENGTH_DIVISOR 10000000
 
 /* A returned number from here on is a refusal: LVL_REFUSAL * number + cell. */
 #define LVL_REFUSAL 1000
@@ -308,6 +343,16 @@ extern "C" {
  * 1000 * number + cell for refusals 1 to 5 and leaves the answer as it was.
  */
 uint64_t lvl_check_row(const uint8_t *row, size_t row_len,
+                       uint8_t *answer, size_t answer_len);
+
+/*
+ * Gives the design strengths of a row that lvl_check_row does not refuse.
+ *
+ * Returns LVL_GIVEN and fills the answer's 64 bytes, whether the row passes or
+ * fails; or returns 1000 * number + cell for refusals 1 to 5 and leaves the
+ * answer as it was.
+ */
+uint64_t lvl_strengths(const uint8_t *row, size_t row_len,
                        uint8_t *answer, size_t answer_len);
 
 /*

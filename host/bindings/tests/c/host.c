@@ -4,6 +4,7 @@
 int main(void)
 {
     check_rows();
+    give_strengths();
     pack_rows();
     check_floor_beams();
     return 0;

@@ -93,6 +93,53 @@ static void check_rows(void)
     printf("answer untouched: %u of %u\n", (unsigned)untouched(answer, sizeof answer, 0xA5), (unsigned)sizeof answer);
 }
 
+/* Every strength, with its remainder as decimals. */
+static void print_strengths(const char *name, uint64_t code, const uint8_t *answer)
+{
+    static const char *const stresses[] = {"bending", "compression", "tension", "shear"};
+    double number[8];
+    size_t i;
+    memcpy(number, answer, sizeof number);
+    printf("%s: %u", name, (unsigned)code);
+    for (i = 0; i < 4; i++)
+        printf(", %s %.0f + %.7f", stresses[i], number[2 * i], number[2 * i + 1] / LVL_STRENGTH_DIVISOR);
+    printf("\n");
+}
+
+static void give_strengths(void)
+{
+    uint8_t row[LVL_ROW_BYTES], answer[LVL_STRENGTHS_BYTES];
+
+    memset(row, 0, sizeof row);
+    fill_row_a(row);
+    print_strengths("row A", lvl_strengths(row, sizeof row, answer, sizeof answer), answer);
+    fill(row, 2, 2);
+    fill(row, 3, 2);
+    fill(row, 4, 14);
+    fill(row, 5, 917);
+    print_strengths("something dropped", lvl_strengths(row, sizeof row, answer, sizeof answer), answer);
+    fill(row, 9, 10000000000.0);
+    print_strengths("a row that fails", lvl_strengths(row, sizeof row, answer, sizeof answer), answer);
+
+    memset(answer, 0xA5, sizeof answer);
+    print_code("row too short", lvl_strengths(row, sizeof row - 1, answer, sizeof answer));
+    print_code("no row", lvl_strengths(NULL, 0, answer, sizeof answer));
+    print_code("answer too short", lvl_strengths(row, sizeof row, answer, sizeof answer - 1));
+    print_code("answer of a check", lvl_strengths(row, sizeof row, answer, LVL_ANSWER_BYTES));
+    print_code("no answer", lvl_strengths(row, sizeof row, NULL, 0));
+
+    /* Each mistake is found before those that are there already. */
+    fill(row, 9, 10000000001.0);
+    print_code("moment too great, answer too short", lvl_strengths(row, sizeof row, answer, sizeof answer - 1));
+    fill(row, 3, 9);
+    print_code("regime 9", lvl_strengths(row, sizeof row, answer, sizeof answer));
+    row[9 * 9] = 0;
+    print_code("no shear force", lvl_strengths(row, sizeof row, answer, sizeof answer));
+    fill(row, 22, 0.5);
+    print_code("0.5 in cell 22", lvl_strengths(row, sizeof row, answer, sizeof answer));
+    printf("answer untouched: %u of %u\n", (unsigned)untouched(answer, sizeof answer, 0xA5), (unsigned)sizeof answer);
+}
+
 static void pack_rows(void)
 {
     uint8_t row[LVL_ROW_BYTES], out[LVL_PACKED_BYTES_MAX];

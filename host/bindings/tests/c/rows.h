@@ -47,10 +47,11 @@ struct trial {
     size_t samples, cells, lent;
 };
 
-#define TRIALS 3
+#define TRIALS 4
 
 static const struct trial trials[TRIALS] = {
     {"lvl_check_row", lvl_check_row, row_cells[0], ROWS, LVL_CELLS, LVL_ANSWER_BYTES},
+    {"lvl_strengths", lvl_strengths, row_cells[0], ROWS, LVL_CELLS, LVL_STRENGTHS_BYTES},
     {"lvl_pack_row", lvl_pack_row, row_cells[0], ROWS, LVL_CELLS, LVL_PACKED_BYTES_MAX},
     {"lvl_check_floor_beam", lvl_check_floor_beam, beam_cells[0], BEAMS, LVL_BEAM_CELLS, LVL_BEAM_ANSWER_BYTES},
 };

@@ -30,13 +30,14 @@ fn is_floating(name: &str, operands: &str) -> bool {
     name.starts_with('f') || registers.iter().any(|register| operands.contains(register))
 }
 
-/// What may be done with a float whatever the mode: to move it, to clear a register, to make it of a whole number, which is
-/// exact up to 2^53, and to compare it with itself, which tells a NaN and which no mode changes.
+/// What may be done with a float whatever the mode: to move it, by itself or beside another, to clear a register, to make it of
+/// a whole number, which is exact up to 2^53, and to compare it with itself, which tells a NaN and which no mode changes.
 fn is_the_same_in_every_mode(name: &str, operands: &str) -> bool {
     let with_itself = operands.split_once(',').map_or(false, |(left, right)| {
         left == right && left.starts_with("%xmm")
     });
     name.starts_with("mov")
+        || name == "unpcklpd"
         || name.starts_with("cvtsi2sd")
         || matches!(name, "xorps" | "xorpd" | "pxor" | "ucomisd") && with_itself
 }

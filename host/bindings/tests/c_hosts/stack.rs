@@ -3,8 +3,9 @@ use crate::building::{include_folder, printed, source, C99};
 use std::fs::read_to_string;
 
 /// The entries, each with the words before its figure in README.md.
-const ENTRIES: [(&str, &str); 3] = [
+const ENTRIES: [(&str, &str); 4] = [
     ("lvl_check_row", "a check takes"),
+    ("lvl_strengths", "strengths"),
     ("lvl_pack_row", "packing"),
     ("lvl_check_floor_beam", "a floor beam"),
 ];
