@@ -2,7 +2,7 @@
 use crate::cells::Cells;
 use crate::floor_beam::{FloorBeam, LOAD_CELLS};
 use crate::floor_rules::FloorRules;
-use crate::host::put_floats;
+use crate::host::{hand_over, put_floats};
 use crate::reading::read_part;
 use lvl_addin::answer::Refusal;
 use lvl_addin::floor_beam::{BeamVerdict, BEAM_ANSWER_BYTES, BEAM_BYTES, BEAM_CELLS};
@@ -61,17 +61,15 @@ pub fn beam_answer_fits(length: usize) -> bool {
     length == BEAM_ANSWER_BYTES
 }
 
-/// The entry for a floor beam. The answer's length is looked at last, and a refusal writes nothing.
+/// The entry for a floor beam.
 pub fn check_beam_bytes<R: FloorRules>(beam: &[u8], answer: &mut [u8]) -> u64 {
-    let judged = R::read_beam(beam).and_then(|beam| R::check_beam(&beam));
-    match judged {
-        Err(refusal) => R::refusal_code(refusal),
-        Ok(_) if !R::beam_answer_fits(answer.len()) => {
-            R::refusal_code(Refusal { number: 5, cell: 0 })
-        }
-        Ok(verdict) => {
-            answer[..BEAM_ANSWER_BYTES].copy_from_slice(&R::beam_answer_bytes(&verdict));
-            R::verdict_code(&verdict.verdict)
-        }
-    }
+    let judged = R::read_beam(beam)
+        .and_then(|beam| R::check_beam(&beam))
+        .map(|verdict| {
+            (
+                R::beam_answer_bytes(&verdict),
+                R::verdict_code(&verdict.verdict),
+            )
+        });
+    hand_over::<R, BEAM_ANSWER_BYTES>(judged, answer, R::beam_answer_fits)
 }

@@ -1,4 +1,4 @@
-//! The two entries that a host calls for a row, on byte slices.
+//! The two entries that a host calls to check or pack a row, on byte slices.
 use crate::rules::Rules;
 use lvl_addin::answer::{Refusal, Verdict};
 use lvl_addin::row::ANSWER_BYTES;
@@ -38,17 +38,29 @@ pub fn refusal_code(refusal: Refusal) -> u64 {
     1000 * u64::from(refusal.number) + u64::from(refusal.cell)
 }
 
-/// The entry for checking. The answer's length is looked at last, and a refusal writes nothing.
-pub fn check_bytes<R: Rules>(row: &[u8], answer: &mut [u8]) -> u64 {
-    let judged = R::read_row(row).and_then(|cells| R::check_row(&cells));
-    match judged {
+/// Ends an entry: its answer's bytes and returned number, or a refusal. The answer's length is looked at last, and a
+/// refusal writes nothing.
+pub fn hand_over<R: Rules, const BYTES: usize>(
+    right: Result<([u8; BYTES], u64), Refusal>,
+    answer: &mut [u8],
+    fits: impl Fn(usize) -> bool,
+) -> u64 {
+    match right {
         Err(refusal) => R::refusal_code(refusal),
-        Ok(_) if !R::answer_fits(answer.len()) => R::refusal_code(Refusal { number: 5, cell: 0 }),
-        Ok(verdict) => {
-            answer[..ANSWER_BYTES].copy_from_slice(&R::answer_bytes(&verdict));
-            R::verdict_code(&verdict)
+        Ok(_) if !fits(answer.len()) => R::refusal_code(Refusal { number: 5, cell: 0 }),
+        Ok((bytes, code)) => {
+            answer[..BYTES].copy_from_slice(&bytes);
+            code
         }
     }
+}
+
+/// The entry for checking.
+pub fn check_bytes<R: Rules>(row: &[u8], answer: &mut [u8]) -> u64 {
+    let judged = R::read_row(row)
+        .and_then(|cells| R::check_row(&cells))
+        .map(|verdict| (R::answer_bytes(&verdict), R::verdict_code(&verdict)));
+    hand_over::<R, ANSWER_BYTES>(judged, answer, R::answer_fits)
 }
 
 /// The entry for packing: any row that reads, whether the check would judge or refuse it.

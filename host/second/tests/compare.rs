@@ -1,17 +1,24 @@
-//! The add-in's entries against the second implementation, on the generated rows.
+//! The add-in's entries for checking and packing against the second implementation, on the generated rows.
 //!
 //! Every returned number and every lent byte must be equal, every verdict of the entry must keep demand 3, and every
 //! class of row, verdict and refusal that can occur must have occurred often enough to mean something.
-mod common;
+#[path = "common/both.rs"]
+mod both;
+#[path = "common/counts.rs"]
+mod counts;
+#[path = "common/row_refusals.rs"]
+mod row_refusals;
 
-use common::{assert_lengths, both, count_answer, AnswerLengths};
+use both::both;
+use counts::{assert_lengths, assert_lent_lengths, assert_occurred, count_answer, AnswerLengths};
 use lvl_addin::answer::Refusal;
 use lvl_addin::entry;
-use lvl_addin::row::{ANSWER_BYTES, CELLS};
+use lvl_addin::row::ANSWER_BYTES;
 use lvl_second::cells::{cell, FIRST_OF_JOINT, KIND};
 use lvl_second::demand3;
 use lvl_second::rows::{Case, Cases, LONGEST_ANSWER, LONGEST_ROW, LONGEST_SPACE};
 use lvl_second::{Cells, Paper, Rules};
+use row_refusals::{every_cell, of_checking, of_reading_and_answering, refusals};
 use std::collections::BTreeMap;
 
 /// The rows that are compared; two million are demanded.
@@ -49,10 +56,6 @@ const CLASSES: [Class; 38] = [
     (5, false, 8, true), (5, false, 8, false), (5, false, 11, true), (5, false, 11, false),
 ];
 
-/// The cells that have a range. Those of least value 0 (4, 10 and 21) can only be too great.
-#[rustfmt::skip]
-const RANGED: &[u32] = &[4, 5, 6, 7, 8, 9, 10, 11, 12, 14, 15, 16, 17, 18, 19, 20, 21, 22];
-
 /// The operations that refuse.
 #[derive(Clone, Copy, Debug, PartialEq, Eq, PartialOrd, Ord)]
 enum Operation {
@@ -62,27 +65,16 @@ enum Operation {
 }
 
 /// Every refusal that can occur. Packing's own refusal 4 cannot: what the host's row reads as fits 34 bits.
-fn refusals() -> Vec<(Operation, Refusal)> {
-    let mut list = Vec::new();
-    let mut add = |operation, number, cells: &[u32]| {
-        list.extend(
-            cells
-                .iter()
-                .map(|&cell| (operation, Refusal { number, cell })),
-        );
-    };
-    let all: Vec<u32> = (1..=CELLS as u32).collect();
-    for operation in [Operation::Check, Operation::Pack] {
-        add(operation, 1, &[0]);
-        add(operation, 1, &all);
-        add(operation, 5, &[0]);
-    }
-    add(Operation::Check, 2, &all);
-    add(Operation::Check, 3, &[1, 2, 3, 13]);
-    add(Operation::Check, 4, RANGED);
-    add(Operation::Unpack, 6, &all);
-    add(Operation::Unpack, 7, &[0]);
-    list
+fn every_refusal() -> Vec<(Operation, Refusal)> {
+    let of_unpacking = refusals(6, every_cell()).chain(refusals(7, [0])).collect();
+    let lists = [
+        (Operation::Check, of_checking()),
+        (Operation::Pack, of_reading_and_answering()),
+        (Operation::Unpack, of_unpacking),
+    ];
+    let by_operation =
+        |(operation, list): (_, Vec<Refusal>)| list.into_iter().map(move |one| (operation, one));
+    lists.into_iter().flat_map(by_operation).collect()
 }
 
 /// What has been seen.
@@ -95,7 +87,7 @@ struct Tally {
     row_lengths: BTreeMap<usize, u64>,
     answer_lengths: AnswerLengths,
     /// By length and whether the row reads.
-    space_lengths: BTreeMap<(usize, bool), u64>,
+    space_lengths: AnswerLengths,
 }
 
 impl Tally {
@@ -231,28 +223,10 @@ fn print(tally: &Tally) {
     println!();
 }
 
-/// Holds the classes that have occurred to those that can.
+/// Holds the classes and refusals that have occurred to those that can.
 fn assert_classes(tally: &Tally) {
-    let seen: Vec<Class> = tally.classes.keys().copied().collect();
-    let mut listed = CLASSES.to_vec();
-    listed.sort_unstable();
-    assert_eq!(
-        seen, listed,
-        "the classes that occur are not those that can"
-    );
-    for (class, &rows) in &tally.classes {
-        assert!(
-            rows >= LEAST_IN_CLASS,
-            "only {rows} rows in class {class:?}"
-        );
-    }
-    let seen: Vec<(Operation, Refusal)> = tally.refusals.keys().copied().collect();
-    let mut listed = refusals();
-    listed.sort_unstable();
-    assert_eq!(
-        seen, listed,
-        "the refusals that occur are not those that can"
-    );
+    assert_occurred("rows in class", &tally.classes, &CLASSES, LEAST_IN_CLASS);
+    assert_occurred("rows with", &tally.refusals, &every_refusal(), 1);
 }
 
 /// Holds every length to have occurred often enough.
@@ -260,17 +234,11 @@ fn assert_every_length(tally: &Tally) {
     assert_lengths("rows", LONGEST_ROW, LEAST_OF_LENGTH, |length| {
         tally.row_lengths.get(&length).copied()
     });
-    for good in [true, false] {
-        assert_lent("answers", &tally.answer_lengths, LONGEST_ANSWER, good);
-        assert_lent("buffers", &tally.space_lengths, LONGEST_SPACE, good);
-    }
-}
-
-fn assert_lent(what: &str, lengths: &BTreeMap<(usize, bool), u64>, longest: usize, good: bool) {
-    let what = format!("{what} (good row {good})");
-    assert_lengths(&what, longest, LEAST_OF_LENGTH, |length| {
-        lengths.get(&(length, good)).copied()
-    });
+    let assert_lent = |what, lengths, longest| {
+        assert_lent_lengths(what, lengths, longest, LEAST_OF_LENGTH);
+    };
+    assert_lent("answers", &tally.answer_lengths, LONGEST_ANSWER);
+    assert_lent("buffers", &tally.space_lengths, LONGEST_SPACE);
 }
 
 #[test]

@@ -2,9 +2,13 @@
 //!
 //! Every returned number and every lent byte must be equal, every verdict of the entry must keep the demand with M and
 //! Q unrounded, and every sort of beam, verdict and refusal must have occurred often enough to mean something.
-mod common;
+#[path = "common/both.rs"]
+mod both;
+#[path = "common/counts.rs"]
+mod counts;
 
-use common::{assert_lengths, both, count_answer, AnswerLengths};
+use both::both;
+use counts::{assert_lengths, assert_lent_lengths, assert_occurred, count_answer, AnswerLengths};
 use lvl_addin::answer::Refusal;
 use lvl_addin::entry;
 use lvl_addin::floor_beam::{BeamVerdict, BEAM_ANSWER_BYTES};
@@ -287,21 +291,11 @@ fn assert_classes(tally: &Tally) {
             "only {beams} beams in class {class:?}"
         );
     }
-    let seen: Vec<Refusal> = tally.refusals.keys().copied().collect();
     let listed: Vec<Refusal> = REFUSALS
         .iter()
         .flat_map(|&(number, cells)| cells.iter().map(move |&cell| Refusal { number, cell }))
         .collect();
-    assert_eq!(
-        seen, listed,
-        "the refusals that occur are not those that can"
-    );
-    for (refusal, &beams) in &tally.refusals {
-        assert!(
-            beams >= LEAST_OF_REFUSAL,
-            "only {beams} beams with {refusal:?}"
-        );
-    }
+    assert_occurred("beams with", &tally.refusals, &listed, LEAST_OF_REFUSAL);
 }
 
 fn assert_sorts<T>(sorts: &[Sort<T>], counts: &[u64]) {
@@ -317,12 +311,12 @@ fn assert_every_length(tally: &Tally) {
     assert_lengths("beams", LONGEST_BEAM, LEAST_OF_LENGTH, |length| {
         tally.beam_lengths.get(&length).copied()
     });
-    for good in [true, false] {
-        let what = format!("answers (good beam {good})");
-        assert_lengths(&what, LONGEST_ANSWER, LEAST_OF_LENGTH, |length| {
-            tally.answer_lengths.get(&(length, good)).copied()
-        });
-    }
+    assert_lent_lengths(
+        "answers",
+        &tally.answer_lengths,
+        LONGEST_ANSWER,
+        LEAST_OF_LENGTH,
+    );
 }
 
 #[test]

@@ -2,9 +2,10 @@
 use lvl_addin::answer::{Refusal, Verdict};
 use lvl_addin::entry;
 use lvl_addin::floor_beam::{BeamVerdict, BEAM_ANSWER_BYTES, BEAM_BYTES};
-use lvl_second::beams::faults::{all, pairs, spoil, Fault, Placed};
+use lvl_second::beams::faults::{all, pairs, spoil};
 use lvl_second::beams::{bytes_of, Numbers, LONGEST_ANSWER, LONGEST_BEAM};
 use lvl_second::floor_beam::{LOAD_CELLS, ROW_CELLS};
+use lvl_second::rows::faults::{Fault, Placed};
 use lvl_second::rows::random::Random;
 
 /// Worked row A's section: 75 by 300, K45, dry. In regime В MR is 28,957,500 N·mm and the shear capacity 40,590 N.

@@ -1,11 +1,12 @@
 //! The cases that come one by one: the ends of every range, the line of 80 percent, great loads, the least sections,
 //! every fault and every two faults at once, every first byte and float in every cell, every length.
-use super::faults::{all, pairs, spoil, Placed};
+use super::faults::{all, pairs, spoil};
 use super::judged::around_the_turn;
 use super::{
     bytes_of, BeamCase, Numbers, FIRST_LOAD, LONGEST_ANSWER, LONGEST_BEAM, SECOND_LOAD, SPAN,
 };
 use crate::rows::damaged::{put, FLOATS};
+use crate::rows::faults::Placed;
 use crate::rows::random::Random;
 use lvl_addin::floor_beam::{BEAM_ANSWER_BYTES, BEAM_BYTES, BEAM_CELLS};
 

@@ -2,11 +2,12 @@
 //! run.
 //!
 //! `bench` prints rows per second and their ratio. `bench once WHO WHAT MIX ROWS` only runs, for a tool that counts
-//! instructions; a run of 0 rows gives what is to be taken off. WHO is `entry` or `second`, WHAT `check`, `pack` or
-//! `floor`, and MIX a name of the table without its spaces.
+//! instructions; a run of 0 rows gives what is to be taken off. WHO is `entry` or `second`, WHAT `check`, `strengths`,
+//! `pack` or `floor`, and MIX a name of the table without its spaces.
 use lvl_addin::entry;
 use lvl_addin::floor_beam::{BEAM_ANSWER_BYTES, BEAM_BYTES};
 use lvl_addin::row::{ANSWER_BYTES, PACKED_BYTES, ROW_BYTES};
+use lvl_addin::strengths::STRENGTHS_BYTES;
 use lvl_second::rows::random::Random;
 use lvl_second::rows::{bytes_of, judged, refused};
 use lvl_second::{beams, Cells, Paper, Rules};
@@ -31,12 +32,18 @@ struct Operation {
 }
 
 /// The operations on rows.
-const OPERATIONS: [Operation; 2] = [
+const OPERATIONS: [Operation; 3] = [
     Operation {
         name: "check",
         lent: ANSWER_BYTES,
         entry: entry::check_bytes,
         second: lvl_second::check_bytes,
+    },
+    Operation {
+        name: "strengths",
+        lent: STRENGTHS_BYTES,
+        entry: entry::strengths_bytes,
+        second: lvl_second::strengths_bytes,
     },
     Operation {
         name: "pack",
@@ -155,7 +162,7 @@ fn best_speeds<const BYTES: usize>(operation: &Operation, rows: &[[u8; BYTES]]) 
 fn print_table() {
     println!("rows per second, best of {REPEATS}; ratio: the entry's time over the second implementation's");
     println!(
-        "{:>6}  {:<14}{:>14}{:>14}{:>8}",
+        "{:>9}  {:<14}{:>14}{:>14}{:>8}",
         "", "rows", "entry", "second", "ratio"
     );
     for operation in &OPERATIONS {
@@ -169,7 +176,7 @@ fn print_lines<const BYTES: usize>(operation: &Operation, mixes: &[Mix<BYTES>]) 
         let (entry, second) = best_speeds(operation, &mix.rows);
         let ratio = second / entry;
         println!(
-            "{:>6}  {:<14}{entry:>14.0}{second:>14.0}{ratio:>8.2}",
+            "{:>9}  {:<14}{entry:>14.0}{second:>14.0}{ratio:>8.2}",
             operation.name, mix.name
         );
     }
@@ -215,7 +222,7 @@ fn main() {
         [] => print_table(),
         ["once", who, what, mix, rows] if run_once(who, what, mix, rows).is_some() => {}
         _ => {
-            eprintln!("usage: bench [once entry|second check|pack|floor MIX ROWS]");
+            eprintln!("usage: bench [once entry|second check|strengths|pack|floor MIX ROWS]");
             std::process::exit(2);
         }
     }

@@ -1,12 +1,14 @@
 //! Rows to compare implementations on: always the same sequence, aimed at where a verdict turns.
 
 pub mod damaged;
+pub mod faults;
 pub mod forces;
 pub mod given;
 pub mod inputs;
 pub mod judged;
 pub mod random;
 pub mod refused;
+pub mod strength_answers;
 pub mod worked;
 
 use crate::{Cells, Paper, Rules};
@@ -23,7 +25,7 @@ pub const LONGEST_ROW: usize = ROW_BYTES + CELLS;
 pub const LONGEST_ANSWER: usize = 2 * ANSWER_BYTES;
 pub const LONGEST_SPACE: usize = PACKED_CELL_BITS.div_ceil(8) * CELLS;
 
-/// One call of each entry.
+/// One call to check a row and one to pack it.
 #[derive(Clone)]
 pub struct Case {
     given: Given<LONGEST_ROW>,

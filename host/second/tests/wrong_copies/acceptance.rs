@@ -39,7 +39,7 @@ fn highest(
     last
 }
 
-wrong_copies! { checking:
+wrong_copies! { Rules, Checking:
     BlankKindUnknown {
         fn kind_of(cells: &Cells) -> Result<Kind, Refusal> {
             Paper::kind_of(cells).map_err(|_| refusal(3, KIND))

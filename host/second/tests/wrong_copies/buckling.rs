@@ -10,7 +10,7 @@ fn lengths_exchanged(member: &Member) -> Member {
     }
 }
 
-wrong_copies! { checking:
+wrong_copies! { Rules, Checking:
     TurningPointAt69 {
         fn is_stocky(length: u64, side: u64) -> bool {
             Paper::slenderness_holds(length, side, 69)

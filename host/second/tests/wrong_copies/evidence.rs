@@ -4,8 +4,8 @@ use lvl_addin::entry;
 use lvl_second::beams::{self, BeamCase, BeamCases};
 use lvl_second::rows::inputs;
 use lvl_second::rows::random::Random;
-use lvl_second::rows::{Case, Cases, LONGEST_ANSWER, LONGEST_SPACE};
-use lvl_second::{FloorRules, Paper, Rules};
+use lvl_second::rows::{strength_answers, Case, Cases, LONGEST_ANSWER, LONGEST_SPACE};
+use lvl_second::{FloorRules, Paper, Rules, StrengthRules};
 
 /// The rows and the floor beams, from the beginnings of their sequences.
 const ROWS: usize = 150_000;
@@ -24,6 +24,9 @@ struct Answered {
     case: Case,
     checked: Returned<LONGEST_ANSWER>,
     packed: Returned<LONGEST_SPACE>,
+    /// How many bytes are lent for the strengths.
+    strengths_lent: usize,
+    strengths: Returned<{ strength_answers::LONGEST }>,
 }
 
 struct AnsweredBeam {
@@ -40,20 +43,23 @@ pub struct Evidence {
 
 impl Evidence {
     pub fn gather() -> Evidence {
-        let answer = |case: Case| Answered {
+        let answer = |(case, strengths_lent): (Case, usize)| Answered {
             checked: call(entry::check_bytes, case.row(), case.answer),
             packed: call(entry::pack_bytes, case.row(), case.space),
+            strengths: call(entry::strengths_bytes, case.row(), strengths_lent),
+            strengths_lent,
             case,
         };
         let answer_beam = |case: BeamCase| AnsweredBeam {
             checked: call(entry::check_floor_beam_bytes, case.beam(), case.answer),
             case,
         };
+        let rows = Cases::new().zip(strength_answers::lengths()).take(ROWS);
         let mut random = Random::new(7);
         let mut inputs: Vec<Vec<u8>> = (0..INPUTS).map(|_| inputs::any(&mut random)).collect();
         inputs.extend((0..3).map(|beyond| inputs::long(&mut random, beyond)));
         Evidence {
-            rows: Cases::new().take(ROWS).map(answer).collect(),
+            rows: rows.map(answer).collect(),
             beams: BeamCases::new().take(BEAMS).map(answer_beam).collect(),
             inputs: inputs
                 .into_iter()
@@ -73,34 +79,62 @@ fn call<const LENGTH: usize>(
     (code, bytes)
 }
 
-/// Whether checking differs from the entry.
-pub fn checking<R: Rules>(evidence: &Evidence) -> bool {
-    let differs =
-        |row: &Answered| call(R::check_bytes, row.case.row(), row.case.answer) != row.checked;
-    evidence.rows.iter().any(differs)
+/// The rules of document 01 and of every request: what a copy needs to be held against any of the answers.
+pub trait EveryRule: FloorRules + StrengthRules + 'static {}
+
+impl<R: FloorRules + StrengthRules + 'static> EveryRule for R {}
+
+/// An entry, or the program, that may show a copy to be wrong.
+pub trait Shows: 'static {
+    /// Whether a copy differs from it.
+    fn shows<R: EveryRule>(evidence: &Evidence) -> bool;
 }
 
-/// Whether packing differs from the entry.
-pub fn packing<R: Rules>(evidence: &Evidence) -> bool {
-    let differs =
-        |row: &Answered| call(R::pack_bytes, row.case.row(), row.case.space) != row.packed;
-    evidence.rows.iter().any(differs)
+pub struct Checking;
+impl Shows for Checking {
+    fn shows<R: EveryRule>(evidence: &Evidence) -> bool {
+        let differs =
+            |row: &Answered| call(R::check_bytes, row.case.row(), row.case.answer) != row.checked;
+        evidence.rows.iter().any(differs)
+    }
 }
 
-/// Whether the floor beam's check differs from the entry.
-pub fn flooring<R: FloorRules>(evidence: &Evidence) -> bool {
-    let differs = |beam: &AnsweredBeam| {
-        call(R::check_beam_bytes, beam.case.beam(), beam.case.answer) != beam.checked
-    };
-    evidence.beams.iter().any(differs)
+pub struct Packing;
+impl Shows for Packing {
+    fn shows<R: EveryRule>(evidence: &Evidence) -> bool {
+        let differs =
+            |row: &Answered| call(R::pack_bytes, row.case.row(), row.case.space) != row.packed;
+        evidence.rows.iter().any(differs)
+    }
 }
 
-/// Whether the text of some input differs.
-pub fn scheduling<R: Rules>(evidence: &Evidence) -> bool {
-    evidence
-        .inputs
-        .iter()
-        .any(|(input, text)| R::schedule(input) != *text)
+pub struct GivingStrengths;
+impl Shows for GivingStrengths {
+    fn shows<R: EveryRule>(evidence: &Evidence) -> bool {
+        let differs = |row: &Answered| {
+            call(R::strengths_bytes, row.case.row(), row.strengths_lent) != row.strengths
+        };
+        evidence.rows.iter().any(differs)
+    }
+}
+
+pub struct Flooring;
+impl Shows for Flooring {
+    fn shows<R: EveryRule>(evidence: &Evidence) -> bool {
+        let differs = |beam: &AnsweredBeam| {
+            call(R::check_beam_bytes, beam.case.beam(), beam.case.answer) != beam.checked
+        };
+        evidence.beams.iter().any(differs)
+    }
+}
+
+/// By the text of some input.
+pub struct Scheduling;
+impl Shows for Scheduling {
+    fn shows<R: EveryRule>(evidence: &Evidence) -> bool {
+        let differs = |(input, text): &(Vec<u8>, String)| R::schedule(input) != *text;
+        evidence.inputs.iter().any(differs)
+    }
 }
 
 /// A wrong copy: what it does wrong, and whether that is seen.
@@ -118,28 +152,47 @@ impl Wrong {
     }
 }
 
-/// Declares wrong copies and lists them: how they are seen, then each copy's name and the one rule it changes.
-macro_rules! wrong_copies {
-    ($seen:ident: $($(#[$note:meta])* $name:ident { $($rule:tt)* })*) => {
-        $($(#[$note])* pub struct $name;
-        impl lvl_second::Rules for $name { $($rule)* }
-        impl lvl_second::FloorRules for $name {})*
-
-        pub fn copies() -> Vec<crate::evidence::Wrong> {
-            vec![$(crate::evidence::Wrong::new(stringify!($name), crate::evidence::$seen::<$name>)),*]
-        }
+/// Lists copies that an entry has to show, declared elsewhere.
+macro_rules! shown_by {
+    ($entry:ident: $($copy:path),* $(,)?) => {
+        vec![$(crate::evidence::Wrong::new(
+            stringify!($copy),
+            <crate::evidence::$entry as crate::evidence::Shows>::shows::<$copy>,
+        )),*]
     };
 }
 
-/// The same for copies that change one of the floor beam's own rules.
-macro_rules! wrong_floor_copies {
-    ($($(#[$note:meta])* $name:ident { $($rule:tt)* })*) => {
-        $($(#[$note])* struct $name;
-        impl lvl_second::Rules for $name {}
-        impl lvl_second::FloorRules for $name { $($rule)* })*
+/// Declares wrong copies and lists them: whose rules they change and the entry that has to show them, then each copy's
+/// name and the one rule it changes.
+macro_rules! wrong_copies {
+    (Rules, $($copies:tt)*) => {
+        declare_copies! { Rules FloorRules StrengthRules, $($copies)* }
+    };
+    (FloorRules, $($copies:tt)*) => {
+        declare_copies! { FloorRules Rules StrengthRules, $($copies)* }
+    };
+    (StrengthRules, $($copies:tt)*) => {
+        declare_copies! { StrengthRules Rules FloorRules, $($copies)* }
+    };
+}
+
+macro_rules! declare_copies {
+    (
+        $changed:ident $right:ident $right_too:ident, $entry:ident:
+        $($(#[$note:meta])* $name:ident { $($rule:tt)* })*
+    ) => {
+        $($(#[$note])* pub struct $name;
+        impl lvl_second::$changed for $name { $($rule)* }
+        impl lvl_second::$right for $name {}
+        impl lvl_second::$right_too for $name {})*
 
         pub fn copies() -> Vec<crate::evidence::Wrong> {
-            vec![$(crate::evidence::Wrong::new(stringify!($name), crate::evidence::flooring::<$name>)),*]
+            copies_shown_by::<crate::evidence::$entry>()
+        }
+
+        /// The same copies, for an entry that has to show them by itself.
+        pub fn copies_shown_by<E: crate::evidence::Shows>() -> Vec<crate::evidence::Wrong> {
+            vec![$(crate::evidence::Wrong::new(stringify!($name), E::shows::<$name>)),*]
         }
     };
 }

@@ -1,7 +1,7 @@
 //! Wrong copies of the dowel joint.
 use lvl_second::{Joint, Member, Paper};
 
-wrong_copies! { checking:
+wrong_copies! { Rules, Checking:
     LayoutStrict {
         fn layout_holds(height: u64, joint: &Joint) -> bool {
             2 * height > (7 * joint.across + 5) * joint.diameter

@@ -1,8 +1,8 @@
 //! The test of the tests: copies of the rules that are wrong in one rule each, all of which must be seen.
 //!
-//! A copy is seen if it differs from the add-in's entries on rows and floor beams of the same sequences that `compare`
-//! and `compare_beams` read, or, in the rules of unpacking and of the program `schedule`, from the right text, to which
-//! `schedule` holds the program. A copy that panics where the entry answers is seen as well.
+//! A copy is seen if it differs from the add-in's entries on rows and floor beams of the same sequences that `compare`,
+//! `compare_strengths` and `compare_beams` read, or, in the rules of unpacking and of the program `schedule`, from the
+//! right text, to which `schedule` holds the program. A copy that panics where the entry answers is seen as well.
 //!
 //! Left out: slenderness with < in place of ≤, at the limits and at 70. It is the same rule, since 12 L² = n² s²
 //! has no solution in whole numbers above 0 (12 is no square).
@@ -11,22 +11,28 @@
 mod evidence;
 
 mod acceptance;
+mod answers;
 mod buckling;
 mod families;
 mod floor;
 mod host;
 mod joint;
 mod packed;
+mod reading;
 mod schedule;
 mod strength;
+mod strengths;
 mod verdict;
 
-use evidence::{Evidence, Wrong};
+use evidence::{Checking, Evidence, Flooring, GivingStrengths, Packing, Scheduling, Shows, Wrong};
 use std::panic::{catch_unwind, set_hook, take_hook, AssertUnwindSafe};
 
-/// The least numbers of wrong copies of the row's rules and of the floor beam's, lest some be lost.
+/// The least numbers of wrong copies of the row's rules, of the floor beam's, of the strengths' own and of those that
+/// strengths share with the row, lest some be lost.
 const LEAST_OF_ROW: usize = 700;
 const LEAST_OF_BEAM: usize = 100;
+const LEAST_OF_STRENGTHS: usize = 180;
+const LEAST_SHARED_BY_STRENGTHS: usize = 460;
 
 fn of_the_row() -> Vec<Wrong> {
     let mut copies = families::copies();
@@ -36,6 +42,7 @@ fn of_the_row() -> Vec<Wrong> {
         joint::copies(),
         verdict::copies(),
         acceptance::copies(),
+        reading::copies(),
         host::copies(),
         packed::copies(),
         schedule::copies(),
@@ -53,6 +60,18 @@ fn every_wrong_copy_is_seen() {
         "wrong copies of the floor beam",
         &floor::copies(),
         LEAST_OF_BEAM,
+        &evidence,
+    );
+    assert_seen(
+        "wrong copies of strengths with remainders",
+        &strengths::own_copies(),
+        LEAST_OF_STRENGTHS,
+        &evidence,
+    );
+    assert_seen(
+        "wrong copies of the row's rules that strengths show",
+        &strengths::shared_copies(),
+        LEAST_SHARED_BY_STRENGTHS,
         &evidence,
     );
 }
@@ -80,8 +99,9 @@ fn assert_seen(what: &str, copies: &[Wrong], least: usize, evidence: &Evidence) 
 fn the_right_rules_are_not_seen_as_wrong() {
     use lvl_second::Paper;
     let evidence = Evidence::gather();
-    assert!(!evidence::checking::<Paper>(&evidence));
-    assert!(!evidence::packing::<Paper>(&evidence));
-    assert!(!evidence::flooring::<Paper>(&evidence));
-    assert!(!evidence::scheduling::<Paper>(&evidence));
+    assert!(!Checking::shows::<Paper>(&evidence));
+    assert!(!Packing::shows::<Paper>(&evidence));
+    assert!(!GivingStrengths::shows::<Paper>(&evidence));
+    assert!(!Flooring::shows::<Paper>(&evidence));
+    assert!(!Scheduling::shows::<Paper>(&evidence));
 }

@@ -10,7 +10,7 @@ fn value_in(width: u32, cell: Option<u64>) -> (u64, u32) {
     })
 }
 
-wrong_copies! { packing:
+wrong_copies! { Rules, Packing:
     ValuesOf33Bits {
         fn cell_bits(cell: Option<u64>) -> (u64, u32) {
             value_in(33, cell)

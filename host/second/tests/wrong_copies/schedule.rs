@@ -14,7 +14,7 @@ fn value_of(width: u32, bits: &mut Bits) -> Option<Option<u64>> {
     }
 }
 
-wrong_copies! { scheduling:
+wrong_copies! { Rules, Scheduling:
     UnpackedValuesOf33Bits {
         fn take_cell(bits: &mut Bits) -> Option<Option<u64>> {
             value_of(33, bits)

@@ -1,7 +1,7 @@
 //! Wrong copies of the factors, strengths and capacities.
 use lvl_second::{Factors, Member, Paper};
 
-wrong_copies! { checking:
+wrong_copies! { Rules, Checking:
     DurationLeftOut {
         fn factor_product(factors: &Factors) -> u64 {
             Paper::factor_product(&Factors { duration: 100, ..*factors })

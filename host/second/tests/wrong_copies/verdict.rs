@@ -19,7 +19,7 @@ const ANOTHER: Verdict = Verdict {
     count: 0,
 };
 
-wrong_copies! { checking:
+wrong_copies! { Rules, Checking:
     UtilisationDown {
         fn utilisation(force: u64, capacity: u64) -> u64 {
             Self::capped(1_000_000 * u128::from(force) / u128::from(capacity))

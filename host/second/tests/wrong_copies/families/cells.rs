@@ -1,10 +1,11 @@
 //! One for each end of a range, each code, and each cell that a kind fills or leaves blank.
-use super::{kind_code, moved, slip, slip_on_beams, SLIP};
-use crate::evidence::Wrong;
+use super::{keep_the_requests, kind_code, moved, slip, SLIP};
+use crate::evidence::{EveryRule, Shows, Wrong};
 use lvl_addin::answer::Refusal;
 use lvl_addin::row::CELLS;
 use lvl_second::cells::{Cells, Grade, Kind, HEIGHT, MOISTURE, OFFICE_FACTOR, WIDTH};
-use lvl_second::{FloorRules, Paper, Rules};
+use lvl_second::rows::judged::REGIMES;
+use lvl_second::{Paper, Rules};
 use std::ops::RangeInclusive;
 
 /// One end of the range of one cell.
@@ -94,145 +95,108 @@ impl Rules for FillUnminded {
     }
 }
 
-impl FloorRules for RangeEnd {}
-impl FloorRules for GradeUnknown {}
-impl FloorRules for GradeKnown {}
+keep_the_requests!(
+    RangeEnd,
+    KindUnknown,
+    GradeUnknown,
+    RegimeUnknown,
+    KindKnown,
+    GradeKnown,
+    RegimeKnown,
+    Table16Row,
+    FillTurned,
+    FillUnminded,
+);
 
 /// Of the cells that a floor beam has: the ends of their ranges, and the grades.
-pub fn on_beams() -> Vec<Wrong> {
-    let mut copies = Vec::new();
-    for number in [MOISTURE, OFFICE_FACTOR, WIDTH, HEIGHT] {
-        copies.extend(ends_of(number, slip_on_beams::<RangeEnd>));
-    }
-    for code in 1..=3 {
-        let name = format!("grade {code} unknown");
-        copies.push(slip_on_beams::<GradeUnknown>(name, code, 0, 0));
-    }
-    for code in [0, 4] {
-        let name = format!("grade {code} known");
-        copies.push(slip_on_beams::<GradeKnown>(name, code, 0, 0));
-    }
+pub fn of_beams<E: Shows>() -> Vec<Wrong> {
+    let mut copies = range_ends::<E>([MOISTURE, OFFICE_FACTOR, WIDTH, HEIGHT]);
+    copies.extend(grades::<E>());
     copies
 }
 
-pub fn copies() -> Vec<Wrong> {
-    let mut copies = range_ends();
-    copies.extend(codes());
-    copies.extend(fills());
+pub fn copies_shown_by<E: Shows>() -> Vec<Wrong> {
+    let mut copies = range_ends::<E>(1..=CELLS);
+    copies.extend(kinds::<E>());
+    copies.extend(grades::<E>());
+    copies.extend(regimes::<E>());
+    copies.extend(table_16_rows::<E>());
+    copies.extend(fills::<E>());
     copies
 }
 
-fn range_ends() -> Vec<Wrong> {
-    (1..=CELLS)
-        .flat_map(|number| ends_of(number, slip::<RangeEnd>))
-        .collect()
+fn range_ends<E: Shows>(numbers: impl IntoIterator<Item = usize>) -> Vec<Wrong> {
+    numbers.into_iter().flat_map(ends_of::<E>).collect()
 }
-
-/// How a slip becomes a copy, by whatever shows it.
-type Slip = fn(String, u64, u64, i64) -> Wrong;
 
 /// Both ends of the range of a cell, if it has one, each moved either way.
-fn ends_of(number: usize, slip: Slip) -> Vec<Wrong> {
+fn ends_of<E: Shows>(number: usize) -> Vec<Wrong> {
     let mut copies = Vec::new();
     let Some(range) = Paper::range(number) else {
         return copies;
     };
     for by in [-1, 1] {
-        let at = number as u64;
+        let end = |name: &str, and| {
+            let name = format!("{name} of cell {number} moved by {by}");
+            slip::<E, RangeEnd>(name, number as u64, and, by)
+        };
         if *range.start() > 0 || by > 0 {
-            copies.push(slip(
-                format!("least of cell {number} moved by {by}"),
-                at,
-                0,
-                by,
-            ));
+            copies.push(end("least", 0));
         }
-        copies.push(slip(
-            format!("greatest of cell {number} moved by {by}"),
-            at,
-            1,
-            by,
-        ));
+        copies.push(end("greatest", 1));
     }
     copies
 }
 
-fn codes() -> Vec<Wrong> {
-    let mut copies = Vec::new();
-    for code in 1..=5 {
-        copies.push(slip::<KindUnknown>(
-            format!("kind {code} unknown"),
-            code,
-            0,
-            0,
-        ));
-    }
-    for code in 1..=3 {
-        copies.push(slip::<GradeUnknown>(
-            format!("grade {code} unknown"),
-            code,
-            0,
-            0,
-        ));
-    }
-    for code in (1..=11).filter(|&code| code != 9) {
-        copies.push(slip::<RegimeUnknown>(
-            format!("regime {code} unknown"),
-            code,
-            0,
-            0,
-        ));
-    }
-    for code in [0, 6] {
-        copies.push(slip::<KindKnown>(format!("kind {code} known"), code, 0, 0));
-    }
-    for code in [0, 4] {
-        copies.push(slip::<GradeKnown>(
-            format!("grade {code} known"),
-            code,
-            0,
-            0,
-        ));
-    }
+/// Codes of one cell that a copy does not know, or knows and must not.
+fn codes<E: Shows, R: EveryRule>(
+    what: &str,
+    how: &str,
+    codes: impl IntoIterator<Item = u64>,
+) -> Vec<Wrong> {
+    let copy = |code| slip::<E, R>(format!("{what} {code} {how}"), code, 0, 0);
+    codes.into_iter().map(copy).collect()
+}
+
+fn kinds<E: Shows>() -> Vec<Wrong> {
+    let mut copies = codes::<E, KindUnknown>("kind", "unknown", 1..=5);
+    copies.extend(codes::<E, KindKnown>("kind", "known", [0, 6]));
+    copies
+}
+
+fn grades<E: Shows>() -> Vec<Wrong> {
+    let mut copies = codes::<E, GradeUnknown>("grade", "unknown", 1..=3);
+    copies.extend(codes::<E, GradeKnown>("grade", "known", [0, 4]));
+    copies
+}
+
+fn regimes<E: Shows>() -> Vec<Wrong> {
+    let mut copies = codes::<E, RegimeUnknown>("regime", "unknown", REGIMES);
     // Code 9 is the regime of fire.
-    for code in [0, 9, 12] {
-        copies.push(slip::<RegimeKnown>(
-            format!("regime {code} known"),
-            code,
-            0,
-            0,
-        ));
-    }
-    for kind in [1, 3, 4, 5] {
-        for row in 0..=6 {
-            copies.push(slip::<Table16Row>(
-                format!("row {row} of Table 16 turned for kind {kind}"),
-                kind,
-                row,
-                0,
-            ));
-        }
-    }
+    copies.extend(codes::<E, RegimeKnown>("regime", "known", [0, 9, 12]));
     copies
 }
 
-fn fills() -> Vec<Wrong> {
-    let mut copies = Vec::new();
-    for kind in 1..=5 {
-        for cell in 2..=CELLS as u64 {
-            copies.push(slip::<FillTurned>(
-                format!("fill of cell {cell} turned in kind {kind}"),
-                kind,
-                cell,
-                0,
-            ));
-            copies.push(slip::<FillUnminded>(
-                format!("fill of cell {cell} not minded in kind {kind}"),
-                kind,
-                cell,
-                0,
-            ));
-        }
-    }
-    copies
+fn table_16_rows<E: Shows>() -> Vec<Wrong> {
+    let copy = |kind, row| {
+        let name = format!("row {row} of Table 16 turned for kind {kind}");
+        slip::<E, Table16Row>(name, kind, row, 0)
+    };
+    [1, 3, 4, 5]
+        .into_iter()
+        .flat_map(|kind| (0..=6).map(move |row| copy(kind, row)))
+        .collect()
+}
+
+fn fills<E: Shows>() -> Vec<Wrong> {
+    let copies = |kind, cell| {
+        let name = |how| format!("fill of cell {cell} {how} in kind {kind}");
+        [
+            slip::<E, FillTurned>(name("turned"), kind, cell, 0),
+            slip::<E, FillUnminded>(name("not minded"), kind, cell, 0),
+        ]
+    };
+    (1..=5)
+        .flat_map(|kind| (2..=CELLS as u64).flat_map(move |cell| copies(kind, cell)))
+        .collect()
 }

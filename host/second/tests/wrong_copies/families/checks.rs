@@ -1,6 +1,6 @@
 //! One for each check of a kind, each pair of checks that can tie, and each pass limit.
-use super::{kind_code, slip, SLIP};
-use crate::evidence::Wrong;
+use super::{keep_the_requests, kind_code, slip, SLIP};
+use crate::evidence::{Checking, Wrong};
 use lvl_addin::answer::Verdict;
 use lvl_second::{Member, Paper, Rules};
 
@@ -40,6 +40,8 @@ impl Rules for PassLimit {
     }
 }
 
+keep_the_requests!(CheckLeftOut, TieTurned, PassLimit);
+
 pub fn copies() -> Vec<Wrong> {
     let mut copies = checks_left_out();
     copies.extend(ties());
@@ -51,7 +53,7 @@ fn checks_left_out() -> Vec<Wrong> {
     let mut copies = Vec::new();
     for kind in 1..=5 {
         for &check in Paper::kind(kind).map_or(&[][..], Paper::checks) {
-            copies.push(slip::<CheckLeftOut>(
+            copies.push(slip::<Checking, CheckLeftOut>(
                 format!("check {check} left out of kind {kind}"),
                 kind,
                 check.into(),
@@ -76,7 +78,7 @@ const PAIRS: [(u64, u64); 8] = [
 
 fn ties() -> Vec<Wrong> {
     let name = |(lower, higher)| format!("check {higher} named where {lower} is used alike");
-    let copy = |pair: (u64, u64)| slip::<TieTurned>(name(pair), pair.0, pair.1, 0);
+    let copy = |pair: (u64, u64)| slip::<Checking, TieTurned>(name(pair), pair.0, pair.1, 0);
     PAIRS.into_iter().map(copy).collect()
 }
 
@@ -88,7 +90,12 @@ fn pass_limits() -> Vec<Wrong> {
                 for beyond in [0, 1] {
                     let name =
                         format!("check {check} of kind {kind} turned {beyond} beyond the limit");
-                    copies.push(slip::<PassLimit>(name, kind, check.into(), beyond));
+                    copies.push(slip::<Checking, PassLimit>(
+                        name,
+                        kind,
+                        check.into(),
+                        beyond,
+                    ));
                 }
             }
         }

@@ -1,8 +1,9 @@
 //! One for each figure of a table and each bound between classes.
-use super::{moved, slip, slip_on_beams, SLIP};
-use crate::evidence::Wrong;
+use super::{keep_the_requests, moved, slip, SLIP};
+use crate::evidence::{Checking, EveryRule, Shows, Wrong};
 use lvl_second::cells::Grade;
-use lvl_second::{FloorRules, Paper, Rules};
+use lvl_second::rows::judged::REGIMES;
+use lvl_second::{Paper, Rules};
 
 /// One figure of Table 7, by grade.
 struct Bending;
@@ -70,83 +71,82 @@ impl Rules for SlendernessLimit {
     }
 }
 
-impl FloorRules for Bending {}
-impl FloorRules for Shear {}
-impl FloorRules for Duration {}
-impl FloorRules for Moisture {}
+keep_the_requests!(
+    Bending,
+    Compression,
+    Tension,
+    Shear,
+    Duration,
+    Moisture,
+    MoistureBound,
+    SlendernessLimit,
+);
 
-/// Of the figures that a floor beam is judged by: bending and shear strengths, the factors of both regimes, and those of moisture.
-pub fn on_beams() -> Vec<Wrong> {
-    let mut copies = Vec::new();
-    for by in [-1, 1] {
-        for grade in [Grade::K45, Grade::K40, Grade::K35] {
-            let name = |what| format!("{what} strength of {grade:?} moved by {by}");
-            copies.push(slip_on_beams::<Bending>(
-                name("bending"),
-                grade as u64,
-                0,
-                by,
-            ));
-            copies.push(slip_on_beams::<Shear>(name("shear"), grade as u64, 0, by));
-        }
-        for code in [2, 3] {
-            let name = format!("duration factor of code {code} moved by {by}");
-            copies.push(slip_on_beams::<Duration>(name, code, 0, by));
-        }
-        for factor in [100, 90, 85, 75] {
-            let name = format!("moisture factor {factor} moved by {by}");
-            copies.push(slip_on_beams::<Moisture>(name, factor, 0, by));
-        }
-    }
+/// Which way a figure is moved.
+const EITHER_WAY: [i64; 2] = [-1, 1];
+
+/// Of the figures that strengths are made of: Table 7, and the factors of duration and moisture.
+pub fn of_strengths<E: Shows>() -> Vec<Wrong> {
+    let mut copies = table_7::<E, Bending>("bending");
+    copies.extend(table_7::<E, Compression>("compression"));
+    copies.extend(table_7::<E, Tension>("tension"));
+    copies.extend(table_7::<E, Shear>("shear"));
+    copies.extend(durations::<E>(&REGIMES));
+    copies.extend(moistures::<E>());
+    copies.extend(moisture_bounds::<E>());
     copies
 }
 
-pub fn copies() -> Vec<Wrong> {
-    let mut copies = Vec::new();
-    for grade in [Grade::K45, Grade::K40, Grade::K35] {
-        for by in [-1, 1] {
-            let (at, name) = (grade as u64, |what| {
-                format!("{what} strength of {grade:?} moved by {by}")
-            });
-            copies.push(slip::<Bending>(name("bending"), at, 0, by));
-            copies.push(slip::<Compression>(name("compression"), at, 0, by));
-            copies.push(slip::<Tension>(name("tension"), at, 0, by));
-            copies.push(slip::<Shear>(name("shear"), at, 0, by));
-        }
-    }
-    for by in [-1, 1] {
-        for code in (1..=11).filter(|&code| code != 9) {
-            copies.push(slip::<Duration>(
-                format!("duration factor of code {code} moved by {by}"),
-                code,
-                0,
-                by,
-            ));
-        }
-        for factor in [100, 90, 85, 75] {
-            copies.push(slip::<Moisture>(
-                format!("moisture factor {factor} moved by {by}"),
-                factor,
-                0,
-                by,
-            ));
-        }
-        for bound in [12, 15, 20] {
-            copies.push(slip::<MoistureBound>(
-                format!("moisture bound {bound} moved by {by}"),
-                bound,
-                0,
-                by,
-            ));
-        }
-        for row in 1..=5 {
-            copies.push(slip::<SlendernessLimit>(
-                format!("slenderness limit of row {row} moved by {by}"),
-                row,
-                0,
-                by,
-            ));
-        }
-    }
+/// Of the figures that a floor beam is judged by: bending and shear strengths, the factors of both regimes, and those
+/// of moisture.
+pub fn of_beams<E: Shows>() -> Vec<Wrong> {
+    let mut copies = table_7::<E, Bending>("bending");
+    copies.extend(table_7::<E, Shear>("shear"));
+    copies.extend(durations::<E>(&[2, 3]));
+    copies.extend(moistures::<E>());
     copies
+}
+
+/// One figure moved either way, by where it stands.
+fn moved_either_way<E: Shows, R: EveryRule>(what: &str, at: u64) -> [Wrong; 2] {
+    EITHER_WAY.map(|by| slip::<E, R>(format!("{what} moved by {by}"), at, 0, by))
+}
+
+fn table_7<E: Shows, R: EveryRule>(stress: &str) -> Vec<Wrong> {
+    let moved = |grade: Grade| {
+        let what = format!("{stress} strength of {grade:?}");
+        moved_either_way::<E, R>(&what, grade as u64)
+    };
+    [Grade::K45, Grade::K40, Grade::K35]
+        .into_iter()
+        .flat_map(moved)
+        .collect()
+}
+
+fn durations<E: Shows>(codes: &[u64]) -> Vec<Wrong> {
+    let moved = |&code: &u64| {
+        let what = format!("duration factor of code {code}");
+        moved_either_way::<E, Duration>(&what, code)
+    };
+    codes.iter().flat_map(moved).collect()
+}
+
+fn moistures<E: Shows>() -> Vec<Wrong> {
+    let moved =
+        |factor| moved_either_way::<E, Moisture>(&format!("moisture factor {factor}"), factor);
+    [100, 90, 85, 75].into_iter().flat_map(moved).collect()
+}
+
+fn moisture_bounds<E: Shows>() -> Vec<Wrong> {
+    let moved =
+        |bound| moved_either_way::<E, MoistureBound>(&format!("moisture bound {bound}"), bound);
+    [12, 15, 20].into_iter().flat_map(moved).collect()
+}
+
+pub fn of_slenderness() -> Vec<Wrong> {
+    let moved = |row| {
+        let what = format!("slenderness limit of row {row}");
+        moved_either_way::<Checking, SlendernessLimit>(&what, row)
+    };
+    (1..=5).flat_map(moved).collect()
 }

@@ -1,39 +1,25 @@
 //! Wrong copies of reading the host's beam and of answering.
+use crate::answers;
 use lvl_addin::answer::Refusal;
 use lvl_addin::floor_beam::{BeamVerdict, BEAM_ANSWER_BYTES, BEAM_BYTES, BEAM_CELLS};
 use lvl_addin::row::ANSWER_BYTES;
 use lvl_second::cells::{GRADE, HEIGHT, MOISTURE, OFFICE_FACTOR, WIDTH};
 use lvl_second::floor_beam::ROW_CELLS;
-use lvl_second::{BeamRead, FloorRules, Paper, Rules};
+use lvl_second::{BeamRead, FloorRules, Paper};
 
 /// The right answer with two of its floats exchanged.
 fn exchanged(verdict: &BeamVerdict, one: usize, other: usize) -> [u8; BEAM_ANSWER_BYTES] {
-    let right = Paper::beam_answer_bytes(verdict);
-    let mut bytes = right;
-    bytes[8 * one..8 * one + 8].copy_from_slice(&right[8 * other..8 * other + 8]);
-    bytes[8 * other..8 * other + 8].copy_from_slice(&right[8 * one..8 * one + 8]);
-    bytes
+    answers::exchanged(Paper::beam_answer_bytes(verdict), one, other)
 }
 
 /// The right answer with another float at a place.
 fn with(verdict: &BeamVerdict, at: usize, float: f64) -> [u8; BEAM_ANSWER_BYTES] {
-    let mut bytes = Paper::beam_answer_bytes(verdict);
-    bytes[8 * at..8 * at + 8].copy_from_slice(&Paper::float_bytes(float));
-    bytes
+    answers::with_float(Paper::beam_answer_bytes(verdict), at, float)
 }
 
-/// The entry where shorter or longer answers than the right one are taken: as much is written as fits.
+/// The entry where other answer lengths are taken as well.
 fn in_part(beam: &[u8], answer: &mut [u8], taken: impl Fn(usize) -> bool) -> u64 {
-    if !taken(answer.len()) {
-        return Paper::check_beam_bytes(beam, answer);
-    }
-    let mut whole = [0; BEAM_ANSWER_BYTES];
-    let code = Paper::check_beam_bytes(beam, &mut whole);
-    if code < 2 {
-        let length = answer.len().min(BEAM_ANSWER_BYTES);
-        answer[..length].copy_from_slice(&whole[..length]);
-    }
-    code
+    answers::in_part::<BEAM_ANSWER_BYTES>(Paper::check_beam_bytes, beam, answer, taken)
 }
 
 /// The entry where the answer's length is refused before all that a rule does not refuse.
@@ -42,14 +28,16 @@ fn fits_before<T>(
     answer: &mut [u8],
     rule: impl Fn(&[u8]) -> Result<T, Refusal>,
 ) -> u64 {
-    if rule(beam).is_ok() && !Paper::beam_answer_fits(answer.len()) {
-        5000
-    } else {
-        Paper::check_beam_bytes(beam, answer)
-    }
+    answers::fits_before(
+        Paper::check_beam_bytes,
+        beam,
+        answer,
+        Paper::beam_answer_fits,
+        rule,
+    )
 }
 
-wrong_floor_copies! {
+wrong_copies! { FloorRules, Flooring:
     LongerBeamAccepted {
         fn read_beam_cells(beam: &[u8]) -> Result<BeamRead, Refusal> {
             Paper::read_beam_cells(&beam[..beam.len().min(BEAM_BYTES)])
@@ -224,21 +212,12 @@ wrong_floor_copies! {
     }
     RefusalWrittenToTheAnswer {
         fn check_beam_bytes(beam: &[u8], answer: &mut [u8]) -> u64 {
-            let code = Paper::check_beam_bytes(beam, answer);
-            if code >= 1000 && answer.len() >= 8 {
-                answer[..8].copy_from_slice(&Paper::float_bytes(code as f64));
-            }
-            code
+            answers::refusal_written(Paper::check_beam_bytes, beam, answer)
         }
     }
     AnswerNotWrittenOnFail {
         fn check_beam_bytes(beam: &[u8], answer: &mut [u8]) -> u64 {
-            let before = answer.to_vec();
-            let code = Paper::check_beam_bytes(beam, answer);
-            if code == 1 {
-                answer.copy_from_slice(&before);
-            }
-            code
+            answers::written_only_if(Paper::check_beam_bytes, beam, answer, |code| code != 1)
         }
     }
     /// Reads the first beam that it is given and judges that one for good.

@@ -19,7 +19,7 @@ fn refused_as(
     }
 }
 
-wrong_floor_copies! {
+wrong_copies! { FloorRules, Flooring:
     TotalFrom99 {
         fn total_range() -> RangeInclusive<u64> {
             99..=100_000

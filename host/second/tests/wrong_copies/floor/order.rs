@@ -44,7 +44,7 @@ fn check_readable(read: &BeamRead) -> Result<BeamVerdict, Refusal> {
     })
 }
 
-wrong_floor_copies! {
+wrong_copies! { FloorRules, Flooring:
     LoadsAfterUnreadableCells {
         fn read_beam(beam: &[u8]) -> Result<FloorBeam, Refusal> {
             Paper::given_cells(&Paper::read_beam_cells(beam)?)?;

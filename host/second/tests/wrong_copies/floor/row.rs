@@ -41,7 +41,7 @@ fn exchanged(beam: &FloorBeam, one: usize, other: usize) -> Cells {
     row
 }
 
-wrong_floor_copies! {
+wrong_copies! { FloorRules, Flooring:
     EightyPercentIsLongTerm {
         fn regime(loads: &Loads) -> u64 {
             long_term_if(5 * loads.first >= 4 * Paper::total(loads))

@@ -1,31 +1,25 @@
 //! Wrong copies of rules that a floor beam shares with the row: its beams show them by themselves.
-use crate::evidence::{flooring, Wrong};
-use crate::{families, host, strength, verdict};
-
-macro_rules! seen_on_beams {
-    ($($copy:path),* $(,)?) => {
-        vec![$(Wrong::new(stringify!($copy), flooring::<$copy>)),*]
-    };
-}
+use crate::evidence::Wrong;
+use crate::{families, host, reading, strength, verdict};
 
 pub fn copies() -> Vec<Wrong> {
     let mut copies = families::on_beams();
-    copies.extend(seen_on_beams![
-        host::NegativeZeroRefused,
-        host::NegativesWithoutSign,
-        host::NegativesAsZero,
-        host::TwoToThe34Accepted,
-        host::FractionsCutOff,
-        host::SmallFractionsAsZero,
-        host::QuietNanAsZero,
-        host::SignallingNanAsZero,
-        host::AnyOtherFirstByteFilled,
-        host::AnyOtherFirstByteBlank,
-        host::LowestBitOfFirstByte,
-        host::FilledAndBlankExchanged,
-        host::BlanksMustBeZero,
-        host::BlanksWithBitsFilled,
-        host::RowHighestByteFirst,
+    copies.extend(shown_by![Flooring:
+        reading::NegativeZeroRefused,
+        reading::NegativesWithoutSign,
+        reading::NegativesAsZero,
+        reading::TwoToThe34Accepted,
+        reading::FractionsCutOff,
+        reading::SmallFractionsAsZero,
+        reading::QuietNanAsZero,
+        reading::SignallingNanAsZero,
+        reading::AnyOtherFirstByteFilled,
+        reading::AnyOtherFirstByteBlank,
+        reading::LowestBitOfFirstByte,
+        reading::FilledAndBlankExchanged,
+        reading::BlanksMustBeZero,
+        reading::BlanksWithBitsFilled,
+        reading::RowHighestByteFirst,
         host::AnswerHighestByteFirst,
         host::AnswerAsWholeNumbers,
         host::PassAndFailExchanged,

@@ -1,10 +1,6 @@
 //! Both implementations called on the same bytes, with guards around what is lent.
-use lvl_addin::answer::Refusal;
+use lvl_second::rows::strength_answers;
 use lvl_second::{beams, rows};
-use std::collections::BTreeMap;
-
-/// How many answers there were of each length, by whether all but that length is accepted.
-pub type AnswerLengths = BTreeMap<(usize, bool), u64>;
 
 /// Bytes to lend, with guards around them.
 #[derive(Clone, PartialEq, Eq, Debug)]
@@ -35,6 +31,7 @@ impl Lent {
 
 const _: () = assert!(rows::LONGEST_ANSWER <= Lent::LONGEST);
 const _: () = assert!(beams::LONGEST_ANSWER <= Lent::LONGEST);
+const _: () = assert!(strength_answers::LONGEST <= Lent::LONGEST);
 
 /// An entry: what the host gives and the lent bytes to the returned number.
 pub type Entry = fn(&[u8], &mut [u8]) -> u64;
@@ -64,18 +61,4 @@ pub fn both(proved: Entry, second: Entry, given: &[u8], length: usize, salt: u64
         );
     }
     (code, ours)
-}
-
-/// Counts an answer by its length, and by whether all but that length is accepted.
-pub fn count_answer(lengths: &mut AnswerLengths, length: usize, refusal: Option<Refusal>) {
-    let accepted = refusal.is_none_or(|refusal| refusal.number == 5);
-    *lengths.entry((length, accepted)).or_default() += 1;
-}
-
-/// Holds the cases of each length up to the longest to be at least so many.
-pub fn assert_lengths(what: &str, longest: usize, least: u64, seen: impl Fn(usize) -> Option<u64>) {
-    for length in 0..=longest {
-        let cases = seen(length).unwrap_or(0);
-        assert!(cases >= least, "only {cases} {what} of {length} bytes");
-    }
 }
