@@ -1,23 +1,25 @@
 //! A sheet of floor beams: each by its loads and span, and judged as a row of kind 2.
 use crate::answers::{Answer, CHECK, REFUSAL, REFUSED_CELL, UTILISATION, VERDICT};
+use crate::cell_numbers::{GRADE, HEIGHT, MOISTURE, OFFICE_FACTOR, WIDTH};
 use crate::judgement::{Judged, Judgement};
-use crate::load_reasons;
 use crate::row::SheetRow;
 use crate::schema::{Cell, Schema};
-use crate::table::{self, Side, TableColumn, NONE};
+use crate::table::{whole_number, TableColumn, NONE, UNSHOWN};
+use crate::table_lines::Side;
 use crate::units::Unit;
-use crate::{heading_names, words};
+use crate::used_strengths::UsedStrengths;
+use crate::{floor_row, heading_names, load_reasons, strength_table, verdict_table, words};
 use lvl_addin::answer::Refusal;
 use lvl_addin::entry;
-use lvl_addin::floor_beam::BeamVerdict;
+use lvl_addin::floor_beam::{BeamVerdict, HostBeam};
 use std::sync::{LazyLock, OnceLock};
 
 /// The places of the cells that no row has.
 pub const LOADS: [usize; 2] = [1, 2];
 pub const SPAN: usize = 3;
 
-/// The cells of a row that follow them, by their numbers there: grade, moisture, office factor, width, height.
-const OF_ROW: [usize; 5] = [2, 4, 5, 6, 7];
+/// The cells of a row that follow them, by their numbers there.
+pub const OF_ROW: [usize; 5] = [GRADE, MOISTURE, OFFICE_FACTOR, WIDTH, HEIGHT];
 
 /// A greater total load is not shown in the table, which has no room for it.
 const GREATEST_SHOWN: u64 = 9_999_999;
@@ -36,11 +38,9 @@ pub fn schema() -> &'static Schema {
         in_first_cell: &["load", "нагрузк"],
         foreign_loads: &[Unit::ForeignForce, Unit::ForeignLineLoad],
         words_of_a_header: Some(WORDS_OF_A_HEADER),
-        remark: Some(
-            "Strength alone, for design loads: sag and lateral stability are not checked.",
-        ),
         loads_wanted: "loads have to be in N/m",
         judge,
+        strengths,
         whole_row_reason: load_reasons::reason,
         answers: vec![
             VERDICT,
@@ -53,16 +53,20 @@ pub fn schema() -> &'static Schema {
             MOMENT,
             SHEAR,
         ],
-        table: vec![
-            LENGTHS,
-            table::SIZES,
-            TOTAL_LOADS,
-            REGIMES,
-            MOMENTS,
-            SHEARS,
-            table::VERDICT,
-            table::UTILISATION,
-        ],
+        verdict_table: verdict_table::layout(
+            vec![
+                LENGTHS,
+                verdict_table::SIZES,
+                TOTAL_LOADS,
+                REGIMES,
+                MOMENTS,
+                SHEARS,
+                verdict_table::VERDICT,
+                verdict_table::UTILISATION,
+            ],
+            vec!["Strength alone, for design loads: sag and lateral stability are not checked."],
+        ),
+        strength_table: strength_table::layout("Bending is used by check 7, shear by check 8."),
         by_key: OnceLock::new(),
     });
     &SCHEMA
@@ -81,8 +85,17 @@ fn cells() -> Vec<Cell> {
 }
 
 fn judge(cells: &[Option<f64>]) -> Result<Judgement, Refusal> {
-    let beam = cells.try_into().expect("as many as a floor beam has");
-    entry::check_floor_beam(beam).map(Judgement::FloorBeam)
+    entry::check_floor_beam(beam(cells)).map(Judgement::FloorBeam)
+}
+
+fn strengths(cells: &[Option<f64>]) -> Result<UsedStrengths, Refusal> {
+    let beam = beam(cells);
+    let found = entry::check_floor_beam(beam)?;
+    UsedStrengths::of_row(&floor_row::of_beam(beam, &found))
+}
+
+fn beam(cells: &[Option<f64>]) -> &HostBeam {
+    cells.try_into().expect("as many as a floor beam has")
 }
 
 /// The total load q, for people: the add-in forms its own.
@@ -109,7 +122,10 @@ const TOTAL_LOAD: Answer = Answer {
 
 const REGIME: Answer = Answer {
     heading: "regime",
-    text: |_, judged| found(judged).map_or(String::new(), regime),
+    text: |_, judged| {
+        let letter = found(judged).and_then(|beam| words::regime(beam.regime.into()));
+        letter.unwrap_or_default().to_owned()
+    },
 };
 
 const MOMENT: Answer = Answer {
@@ -122,52 +138,47 @@ const SHEAR: Answer = Answer {
     text: |_, judged| found(judged).map_or(String::new(), |beam| beam.shear.to_string()),
 };
 
-const TOTAL_LOADS: TableColumn = TableColumn {
+const TOTAL_LOADS: TableColumn<Judgement> = TableColumn {
     heading: "q, N/m",
     width: 7,
     side: Side::Right,
     text: |row, _| match total_load(row) {
         Some(total) if total <= GREATEST_SHOWN => total.to_string(),
-        Some(_) => "?".to_owned(),
+        Some(_) => UNSHOWN.to_owned(),
         None => NONE.to_owned(),
     },
 };
 
-const LENGTHS: TableColumn = TableColumn {
+const LENGTHS: TableColumn<Judgement> = TableColumn {
     heading: "Span, mm",
     width: 8,
     side: Side::Right,
-    text: |row, _| table::length(row.cell(SPAN), 6),
+    text: |row, _| whole_number(row.cell(SPAN), 6),
 };
 
-const REGIMES: TableColumn = TableColumn {
+const REGIMES: TableColumn<Judgement> = TableColumn {
     heading: "Regime",
     width: 6,
     side: Side::Left,
-    // With its code: the letter Ve looks like a B, which is not the letter Be.
     text: |_, judged| {
-        let lettered = |beam: &BeamVerdict| format!("{} ({})", regime(beam), beam.regime);
-        found(judged).map_or(NONE.to_owned(), lettered)
+        let lettered = |beam: &BeamVerdict| words::regime_with_code(beam.regime.into());
+        found(judged).and_then(lettered).unwrap_or(NONE.to_owned())
     },
 };
 
-const MOMENTS: TableColumn = TableColumn {
+const MOMENTS: TableColumn<Judgement> = TableColumn {
     heading: "M, kN·m",
     width: 7,
     side: Side::Right,
     text: |_, judged| found(judged).map_or(NONE.to_owned(), moment_in_kn_m),
 };
 
-const SHEARS: TableColumn = TableColumn {
+const SHEARS: TableColumn<Judgement> = TableColumn {
     heading: "Q, kN",
     width: 7,
     side: Side::Right,
     text: |_, judged| found(judged).map_or(NONE.to_owned(), shear_in_kn),
 };
-
-fn regime(beam: &BeamVerdict) -> String {
-    words::regime(beam.regime).to_owned()
-}
 
 fn moment_in_kn_m(beam: &BeamVerdict) -> String {
     hundredths(beam.moment.div_ceil(10_000))

@@ -1,11 +1,14 @@
-//! A sheet of members or floor beams, judged or packed row by row. All judgement is the add-in's; what stands here reads and writes.
+//! A sheet of members or floor beams, judged, packed or with its strengths, row by row. All judgement is the add-in's; what
+//! stands here reads and writes.
 
 pub mod answer_columns;
 pub mod answers;
+pub mod cell_numbers;
 pub mod columns;
 pub mod encoding;
 pub mod fields;
 pub mod floor_beams;
+pub mod floor_row;
 pub mod formulas;
 pub mod headed_columns;
 pub mod header;
@@ -28,11 +31,15 @@ pub mod reasons;
 pub mod row;
 pub mod schema;
 pub mod separator;
+pub mod strength_table;
 pub mod table;
+pub mod table_lines;
 pub mod tally;
 pub mod text;
 pub mod unit_lines;
 pub mod units;
+pub mod used_strengths;
+pub mod verdict_table;
 pub mod windows_1251;
 pub mod words;
 

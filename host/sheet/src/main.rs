@@ -1,5 +1,5 @@
-//! `sheet FILE.csv`: the verdicts on a sheet of members or floor beams, as a table or as columns beside the input, or its
-//! rows packed.
+//! `sheet FILE.csv`: the verdicts on a sheet of members or floor beams, as a table or as columns beside the input, their
+//! design strengths, or its rows packed.
 use lvl_sheet::answer_columns::{AnswerColumns, Lettering};
 use lvl_sheet::encoding::Encoding;
 use lvl_sheet::input::{self, Input};
@@ -47,7 +47,7 @@ fn help() -> u8 {
     }
 }
 
-/// Reads the sheet, answers it as a whole, and shows the count: below the table, otherwise on the error output.
+/// Reads the sheet, answers it as a whole, and shows the count: below a table, otherwise on the error output.
 fn answered(request: &Request) -> Result<Tally, Failure> {
     let of_sheet = |problem: String| of_sheet(request, &problem);
     let input = input::read(&request.source).map_err(of_sheet)?;
@@ -56,16 +56,23 @@ fn answered(request: &Request) -> Result<Tally, Failure> {
     if tally.rows == 0 {
         return Err(of_sheet("there are no rows".to_owned()));
     }
-    if request.form == Form::Table {
-        answers.extend(format!("\n{}\n", tally.judged()).into_bytes());
+    let count = count(&tally, request.form);
+    if request.form.is_table() {
+        answers.extend(format!("\n{count}\n").into_bytes());
     }
     deliver(&answers, &request.destination)?;
-    match request.form {
-        Form::Table => {}
-        Form::Csv => notes::say(&tally.judged()),
-        Form::Packed => notes::say(&tally.packed()),
+    if !request.form.is_table() {
+        notes::say(&count);
     }
     Ok(tally)
+}
+
+fn count(tally: &Tally, form: Form) -> String {
+    match form {
+        Form::Table | Form::Csv => tally.judged(),
+        Form::Strengths => tally.with_strengths(),
+        Form::Packed => tally.packed(),
+    }
 }
 
 /// An error where the answers would take the place of the sheet: only `--csv` writes it again.
@@ -93,9 +100,17 @@ fn gone_through(bytes: &[u8], request: &Request) -> Result<(Tally, Vec<u8>), Str
     notes::show(encoding.note().as_slice());
     let text = encoding.decoded(bytes);
     let columns = &request.columns;
+    let schema = columns.schema;
     let progress = &mut Progress::new(io::stderr().is_terminal());
     let answers = match request.form {
-        Form::Table => go_through(&text, columns, Table::new(columns.schema), progress),
+        Form::Table => {
+            let report = Table::new(schema, &schema.verdict_table);
+            go_through(&text, columns, report, progress)
+        }
+        Form::Strengths => {
+            let report = Table::new(schema, &schema.strength_table);
+            go_through(&text, columns, report, progress)
+        }
         Form::Csv => {
             let report = AnswerColumns::new(lettering(encoding, &request.destination));
             go_through(&text, columns, report, progress)

@@ -1,18 +1,23 @@
 //! A sheet of members, a row of 22 cells each.
 use crate::answers::{CHECK, COUNT, REFUSAL, REFUSED_CELL, UTILISATION, VERDICT};
+use crate::cell_numbers::KIND;
 use crate::heading_names;
 use crate::judgement::Judgement;
 use crate::row::SheetRow;
 use crate::schema::{Cell, Schema};
-use crate::table::{self, Side, TableColumn, NONE};
+use crate::table::{TableColumn, NONE};
+use crate::table_lines::Side;
 use crate::units::Unit;
-use crate::words;
+use crate::used_strengths::UsedStrengths;
+use crate::{strength_table, verdict_table, words};
 use lvl_addin::answer::Refusal;
 use lvl_addin::entry;
-use lvl_addin::row::CELLS;
+use lvl_addin::row::{HostRow, CELLS};
 use std::sync::{LazyLock, OnceLock};
 
-const KIND: usize = 1;
+/// By which checks, whatever the kind.
+const STRENGTHS_USED: &str =
+    "Bending is used by checks 7 and 11, compression by 9, 10 and 11, tension by 5, 6 and 11, shear by 8.";
 
 pub fn schema() -> &'static Schema {
     static SCHEMA: LazyLock<Schema> = LazyLock::new(|| Schema {
@@ -25,33 +30,44 @@ pub fn schema() -> &'static Schema {
         in_first_cell: &["kind"],
         foreign_loads: &[Unit::ForeignForce],
         words_of_a_header: None,
-        remark: None,
         loads_wanted: "forces have to be in N, moments in N·mm",
         judge,
+        strengths,
         whole_row_reason,
         answers: vec![VERDICT, CHECK, UTILISATION, COUNT, REFUSAL, REFUSED_CELL],
-        table: vec![
-            KINDS,
-            table::SIZES,
-            table::VERDICT,
-            table::UTILISATION,
-            DOWELS,
-        ],
+        verdict_table: verdict_table::layout(
+            vec![
+                KINDS,
+                verdict_table::SIZES,
+                verdict_table::VERDICT,
+                verdict_table::UTILISATION,
+                DOWELS,
+            ],
+            vec![],
+        ),
+        strength_table: strength_table::layout(STRENGTHS_USED),
         by_key: OnceLock::new(),
     });
     &SCHEMA
 }
 
 fn judge(cells: &[Option<f64>]) -> Result<Judgement, Refusal> {
-    let row = cells.try_into().expect("as many as a row has");
-    entry::check(row).map(Judgement::Member)
+    entry::check(row(cells)).map(Judgement::Member)
+}
+
+fn strengths(cells: &[Option<f64>]) -> Result<UsedStrengths, Refusal> {
+    UsedStrengths::of_row(row(cells))
+}
+
+fn row(cells: &[Option<f64>]) -> &HostRow {
+    cells.try_into().expect("as many as a row has")
 }
 
 fn whole_row_reason(refusal: Refusal, _: &SheetRow) -> String {
     format!("refusal {} of the whole row", refusal.number)
 }
 
-const KINDS: TableColumn = TableColumn {
+const KINDS: TableColumn<Judgement> = TableColumn {
     heading: "Kind",
     width: 21,
     side: Side::Left,
@@ -61,7 +77,7 @@ const KINDS: TableColumn = TableColumn {
     },
 };
 
-const DOWELS: TableColumn = TableColumn {
+const DOWELS: TableColumn<Judgement> = TableColumn {
     heading: "Dowels",
     width: 6,
     side: Side::Right,

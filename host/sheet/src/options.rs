@@ -31,13 +31,14 @@ pub enum Destination {
 #[derive(Clone, Copy, PartialEq, Eq)]
 pub enum Form {
     Table,
+    Strengths,
     Csv,
     Packed,
 }
 
 const USAGE: &str = "\
-usage: sheet [--floor] [--csv | --pack] [-o FILE] [--skip HEADING]...
-             [--by-position] FILE.csv
+usage: sheet [--floor] [--csv | --pack | --strengths] [-o FILE]
+             [--skip HEADING]... [--by-position] FILE.csv
        (- for standard input, --help for more)";
 
 /// How much of an argument is quoted.
@@ -75,6 +76,7 @@ fn sort(mut arguments: impl Iterator<Item = OsString>) -> Result<Sorted, String>
             Some("--floor") => sorted.floor = true,
             Some("--csv") => sorted.forms.push(Form::Csv),
             Some("--pack") => sorted.forms.push(Form::Packed),
+            Some("--strengths") => sorted.forms.push(Form::Strengths),
             Some("-o") => sorted.destinations.push(destination(arguments.next())?),
             Some("--by-position") => sorted.columns.by_position = true,
             Some("--skip") => sorted.columns.skip.push(heading(arguments.next())?),
@@ -110,7 +112,7 @@ fn request(mut sorted: Sorted) -> Result<Request, String> {
         return wrong("one sheet at a time");
     }
     if !sorted.forms.is_empty() {
-        return wrong("--csv and --pack are two forms: one at a time");
+        return wrong("--csv, --pack and --strengths are three forms: one at a time");
     }
     if !sorted.destinations.is_empty() {
         return wrong("one -o FILE at a time");
@@ -125,6 +127,13 @@ fn request(mut sorted: Sorted) -> Result<Request, String> {
         return wrong("packed rows are bytes and not for a terminal: use -o FILE or a pipe");
     }
     Ok(request)
+}
+
+impl Form {
+    /// Whether people read it, with the count below.
+    pub fn is_table(self) -> bool {
+        matches!(self, Form::Table | Form::Strengths)
+    }
 }
 
 impl Request {
@@ -189,8 +198,8 @@ const HELP: &str = "\
 Checks LVL members and steel dowel joints to SP 64.13330, one member a row, or
 floor beams by their loads, one beam a row.
 
-usage: sheet [--floor] [--csv | --pack] [-o FILE] [--skip HEADING]...
-             [--by-position] FILE.csv
+usage: sheet [--floor] [--csv | --pack | --strengths] [-o FILE]
+             [--skip HEADING]... [--by-position] FILE.csv
        - in place of FILE.csv reads standard input
 
   --floor         the sheet lists floor beams with their loads and spans, as the
@@ -200,6 +209,8 @@ usage: sheet [--floor] [--csv | --pack] [-o FILE] [--skip HEADING]...
                   error output
   --pack          writes the rows packed, as the program schedule reads them; a
                   row that cannot be packed is a blank row there, with a note
+  --strengths     lists the strengths that the checks of each row use, in kPa and
+                  with what rounding dropped, in place of the table of verdicts
   -o FILE         writes to a file: a new one takes the old one's place when all
                   is done, and until then the old one stands as it is; with --csv
                   it may be the sheet itself
@@ -254,6 +265,17 @@ The table. Utilisation is rounded up to a tenth of a percent, so that a pass is 
 most 100.0 and a fail above it. Checks of layout, slenderness and joint length are
 yes or no and have no figure. All judgement is the proved add-in's.
 
+The strengths, with --strengths. A design strength R = table value × t × w × o /
+10000000 is rounded down to whole kPa. It is listed as 24710 + 0.4000000: what the
+checks use, and what rounding dropped. Their sum is R in full, exactly, since it has
+seven decimals at most. Beside it stands what R follows from: the grade; the regime,
+by its letter and code, for t; the moisture for w; the office factor o.
+Check 5, net tension, and 6, tension of side pieces, use tension; 7, bending, uses
+bending; 8, shear, uses shear; 9 and 10, buckling, use compression; 11 uses bending,
+with compression in kind 4 and with tension in kind 5. A strength that no check of
+the row's kind uses is a dash. Whether a row passes or fails, it has the same
+strengths; one that is refused has dashes, and its reason at the end of the line.
+
 Floor beams, with --floor: one simply supported beam a row, with loads and a span
 in place of a moment and a shear force. All that is said above holds, but for
 --pack, since a floor beam is no row of cells. It has these cells, in this order;
@@ -269,7 +291,8 @@ stability are not. Loads are design values, with their safety factors, the beam'
 own weight among the first. A load, q or a span that is blank, no whole number or
 outside its range is refusal 8, before all others. The table shows span, section, q,
 the regime by its letter and code, and M and Q in kN·m and kN,
-rounded up to two decimals; --csv has M and Q whole, in N·mm and N.
+rounded up to two decimals; --csv has M and Q whole, in N·mm and N. --strengths
+shows the regime that was found.
 
 Loads are in N/m alone: a heading or a line that speaks of kN/m or кгс/м stops the
 sheet, and so does a title that speaks of loads on an area, or of cm, above headings
@@ -281,5 +304,6 @@ that are known with --floor:
 {floor headings}
 
 Exit code: 0 every row passes, or is packed; 1 a row fails or is refused; 2 the
-sheet cannot be read, has no rows, or its answers cannot be written.
+sheet cannot be read, has no rows, or its answers cannot be written. With
+--strengths a member that fails is no failure: 0 no row is refused, 1 a row is.
 ";

@@ -5,9 +5,10 @@ use crate::headings::Heading;
 use crate::judgement::{Judged, Refused};
 use crate::lines::Line;
 use crate::number::Typed;
+use crate::schema::Ask;
+use crate::used_strengths::UsedStrengths;
 use crate::words::CellWords;
 use lvl_addin::entry;
-use lvl_addin::row::HostRow;
 use std::borrow::Cow;
 
 pub struct SheetRow<'a> {
@@ -27,6 +28,7 @@ pub struct SheetRow<'a> {
 pub enum Outcome {
     Passed,
     Failed,
+    WithStrengths,
     Packed,
     Refused,
 }
@@ -36,6 +38,14 @@ impl Outcome {
         match judged {
             Ok(found) if found.verdict().passes => Outcome::Passed,
             Ok(_) => Outcome::Failed,
+            Err(_) => Outcome::Refused,
+        }
+    }
+
+    /// A row that fails has strengths like any other.
+    pub fn of_strengths(found: &Result<UsedStrengths, Refused>) -> Outcome {
+        match found {
+            Ok(_) => Outcome::WithStrengths,
             Err(_) => Outcome::Refused,
         }
     }
@@ -61,15 +71,21 @@ impl<'a> SheetRow<'a> {
 
     /// What the add-in finds.
     pub fn judged(&self) -> Judged {
-        let judge = self.columns.schema.judge;
-        judge(&self.host_cells()?).map_err(Refused::ByAddin)
+        self.asked(self.columns.schema.judge)
+    }
+
+    /// The strengths that the add-in's checks use.
+    pub fn strengths(&self) -> Result<UsedStrengths, Refused> {
+        self.asked(self.columns.schema.strengths)
     }
 
     /// The bytes that the add-in packs a member's row into.
     pub fn packed(&self) -> Result<Vec<u8>, Refused> {
-        let cells = self.host_cells()?;
-        let row: HostRow = cells.try_into().expect("only members are packed");
-        entry::pack(&row).map_err(Refused::ByAddin)
+        self.asked(|cells| entry::pack(cells.try_into().expect("only members are packed")))
+    }
+
+    fn asked<Found>(&self, ask: Ask<Found>) -> Result<Found, Refused> {
+        ask(&self.host_cells()?).map_err(Refused::ByAddin)
     }
 
     /// The cells for the add-in, unless it is not clear which are meant.
@@ -126,14 +142,10 @@ impl<'a> SheetRow<'a> {
         self.cells[place - 1]
     }
 
-    /// What was typed into the cell with this number in a row.
+    /// What was typed into the cell with this number in a row; nothing where the schema does without it.
     pub fn numbered(&self, number: usize) -> Typed {
-        let (place, _) = self
-            .columns
-            .schema
-            .numbered(number)
-            .expect("a cell of every schema");
-        self.cell(place)
+        let cell = self.columns.schema.numbered(number);
+        cell.map_or(Typed::Blank, |(place, _)| self.cell(place))
     }
 
     /// The words for a cell, by its place.

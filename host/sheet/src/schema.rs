@@ -4,8 +4,9 @@ use crate::heading_names::{self, CellNames};
 use crate::headings::{self, Heading};
 use crate::judgement::Judgement;
 use crate::row::SheetRow;
-use crate::table::TableColumn;
+use crate::table::Layout;
 use crate::units::Unit;
+use crate::used_strengths::UsedStrengths;
 use crate::words::{self, CellWords};
 use crate::{floor_beams, members};
 use lvl_addin::answer::Refusal;
@@ -32,19 +33,22 @@ pub struct Schema {
     pub foreign_loads: &'static [Unit],
     /// So many fields of words, and no number, make a first line a header, though no heading is known; none where it is a row all the same.
     pub words_of_a_header: Option<usize>,
-    /// What a reader of the table should know of what was not checked.
-    pub remark: Option<&'static str>,
     /// In which units loads and forces have to be.
     pub loads_wanted: &'static str,
-    pub judge: fn(&[Option<f64>]) -> Result<Judgement, Refusal>,
+    pub judge: Ask<Judgement>,
+    /// Refuses what `judge` refuses, and nothing else.
+    pub strengths: Ask<UsedStrengths>,
     /// Why a row is refused where no cell is named.
     pub whole_row_reason: fn(Refusal, &SheetRow) -> String,
     pub answers: Vec<Answer>,
-    /// The columns of the table between the names and the reasons.
-    pub table: Vec<TableColumn>,
+    pub verdict_table: Layout<Judgement>,
+    pub strength_table: Layout<UsedStrengths>,
     /// What the headings name, by their keys.
     pub by_key: OnceLock<HashMap<String, Heading>>,
 }
+
+/// Asks the add-in about cells in the order of the schema's.
+pub type Ask<Found> = fn(&[Option<f64>]) -> Result<Found, Refusal>;
 
 /// A cell of what is listed.
 pub struct Cell {

@@ -6,6 +6,7 @@ pub struct Tally {
     pub rows: u64,
     pub passed: u64,
     pub failed: u64,
+    pub with_strengths: u64,
     pub packed: u64,
     pub refused: u64,
 }
@@ -16,6 +17,7 @@ impl Tally {
         let counted = match outcome {
             Outcome::Passed => &mut self.passed,
             Outcome::Failed => &mut self.failed,
+            Outcome::WithStrengths => &mut self.with_strengths,
             Outcome::Packed => &mut self.packed,
             Outcome::Refused => &mut self.refused,
         };
@@ -34,6 +36,16 @@ impl Tally {
             self.rows(),
             self.passed,
             self.failed,
+            self.refused
+        )
+    }
+
+    /// The count of a sheet whose strengths are listed.
+    pub fn with_strengths(&self) -> String {
+        format!(
+            "{}: {} with strengths, {} refused",
+            self.rows(),
+            self.with_strengths,
             self.refused
         )
     }

@@ -1,4 +1,4 @@
-//! What a reader sees in place of numbers: kinds, cells, regimes, checks and their clauses. Nothing is judged by it.
+//! What a reader sees in place of numbers: kinds, cells, grades, regimes, checks and their clauses. Nothing is judged by it.
 
 use lvl_addin::row;
 use std::ops::RangeInclusive;
@@ -67,13 +67,25 @@ pub fn cells() -> impl Iterator<Item = &'static CellWords> {
     CELLS.iter()
 }
 
+pub fn grade(code: u64) -> Option<&'static str> {
+    match code {
+        1 => Some("K45"),
+        2 => Some("K40"),
+        3 => Some("K35"),
+        _ => None,
+    }
+}
+
 /// The letter of a load duration regime, Table 4.
-pub fn regime(code: u32) -> &'static str {
+pub fn regime(code: u64) -> Option<&'static str> {
     const LETTERS: [&str; 11] = ["А", "Б", "В", "Г", "Д", "Е", "Ж", "И", "К", "Л", "М"];
-    let place = (code as usize).checked_sub(1);
-    place
-        .and_then(|place| LETTERS.get(place))
-        .unwrap_or(&"unknown")
+    let place = usize::try_from(code).ok()?.checked_sub(1)?;
+    LETTERS.get(place).copied()
+}
+
+/// With its code: the letter Ve looks like a B, which is not the letter Be.
+pub fn regime_with_code(code: u64) -> Option<String> {
+    regime(code).map(|letter| format!("{letter} ({code})"))
 }
 
 pub fn kind(number: u64) -> Option<&'static str> {

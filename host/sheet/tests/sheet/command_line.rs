@@ -124,7 +124,7 @@ fn standard_input_and_a_reader_that_leaves() {
 
     let long =
         Scratch::new(format!("{HEADER}\n{}", format!("{ROW_A}\n").repeat(20_000)).as_bytes());
-    for options in [&[][..], &["--csv"]] {
+    for options in [&[][..], &["--csv"], &["--strengths"]] {
         let mut child = command()
             .args(options)
             .arg(&long.0)

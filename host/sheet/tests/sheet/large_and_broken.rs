@@ -92,5 +92,7 @@ fn random_bytes() {
             "{content:?}"
         );
         assert_eq!(file.run(&["--csv"]).code, run.code);
+        let strengths = file.run(&["--strengths"]);
+        assert_eq!(strengths.code == 2, run.code == 2, "{content:?}");
     }
 }

@@ -1,4 +1,4 @@
-//! The sheet command on a hall roof, on floor beams and on whatever else people paste: always a verdict, a refusal or a clear message.
+//! The sheet command on a hall roof, on floor beams and on whatever else people paste: always an answer, a refusal or a clear message.
 
 mod common;
 
@@ -17,5 +17,6 @@ mod output_file;
 mod packing;
 mod quotes;
 mod reasons;
+mod strengths;
 mod terminals;
 mod verdicts;

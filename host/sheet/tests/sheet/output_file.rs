@@ -64,7 +64,7 @@ fn answers_go_to_a_file() {
     assert_eq!(read(&answers), table(sheet()).out);
     let mode = fs::metadata(&answers).unwrap().permissions().mode();
     assert_eq!(mode & 0o777, 0o640);
-    for options in [&[][..], &["--pack"]] {
+    for options in [&[][..], &["--pack"], &["--strengths"]] {
         let arguments = [options, &["-o", &sheet_file, &sheet_file]].concat();
         let run = run(&arguments);
         assert_eq!((run.code, read(&sheet_file)), (2, sheet()), "{}", run.err);
@@ -96,7 +96,7 @@ fn a_file_has_what_standard_output_has() {
         utf16,
     ] {
         fs::write(&sheet_file, &content).unwrap();
-        for options in [&["--csv"][..], &["--pack"], &[]] {
+        for options in [&["--csv"][..], &["--pack"], &["--strengths"], &[]] {
             let printed = command().args(options).arg(&sheet_file).output().unwrap();
             let mut to_file = command();
             to_file.args(options).args(["-o", &answers, &sheet_file]);
@@ -211,7 +211,7 @@ fn standard_output_that_is_the_sheet_is_refused() {
     let file = Scratch::new(sheet().as_bytes());
     let appended = || OpenOptions::new().append(true).open(&file.0).unwrap();
     let message = "standard output leads into the sheet itself, so nothing is written";
-    for options in [&[][..], &["--csv"], &["--pack"]] {
+    for options in [&[][..], &["--csv"], &["--pack"], &["--strengths"]] {
         for from_input in [false, true] {
             let mut command = command();
             command.args(options).stdout(appended());

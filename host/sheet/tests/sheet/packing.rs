@@ -128,6 +128,6 @@ fn packed_rows_are_not_for_a_terminal() {
         assert_eq!((run.code, run.out.as_str()), (2, ""));
         assert!(run
             .err
-            .contains("--csv and --pack are two forms: one at a time"));
+            .contains("--csv, --pack and --strengths are three forms: one at a time"));
     }
 }

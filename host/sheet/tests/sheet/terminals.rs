@@ -64,6 +64,8 @@ fn nothing_unseen_in_tables_notes_and_messages() {
         let file = Scratch::new(sheet.as_bytes());
         let table = file.run(&[]);
         assert_eq!(table.summary(), "3 rows: 1 passed, 0 failed, 2 refused");
+        let strengths = file.run(&["--strengths"]);
+        assert_eq!(strengths.summary(), "3 rows: 1 with strengths, 2 refused");
         let headed = Scratch::new(sheet.replace("grade", &odd).as_bytes());
         let unknown = headed.run(&["--skip", &argument, "--skip", &format!("{argument}x")]);
         assert_eq!(unknown.code, 2);
@@ -71,11 +73,13 @@ fn nothing_unseen_in_tables_notes_and_messages() {
             &table,
             &file.run(&["--csv"]),
             &file.run(&["--pack"]),
+            &strengths,
             &unknown,
         ] {
             assert_seen(&run.err);
         }
         assert_seen(&table.out);
+        assert_seen(&strengths.out);
         for arguments in [
             &[argument.as_str()][..],
             &[&format!("--{argument}")],

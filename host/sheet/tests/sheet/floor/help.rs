@@ -44,5 +44,5 @@ fn help_explains_floor_beams() {
 fn usage_names_the_option() {
     assert!(run(&[])
         .err
-        .contains("usage: sheet [--floor] [--csv | --pack] "));
+        .contains("usage: sheet [--floor] [--csv | --pack | --strengths] "));
 }

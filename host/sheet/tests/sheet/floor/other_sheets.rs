@@ -5,7 +5,7 @@ use crate::common::{self, hall_roof, run, Scratch, ROW_A, ROW_B, ROW_E};
 #[test]
 fn floor_beams_without_floor_are_not_judged() {
     let advice = "These are rather the headings of another sheet: a sheet of floor beams is judged with --floor\n";
-    for options in [&[][..], &["--csv"], &["--pack"]] {
+    for options in [&[][..], &["--csv"], &["--pack"], &["--strengths"]] {
         let run = Scratch::new(example().as_bytes()).run(options);
         assert_eq!((run.code, run.out.as_str()), (2, ""));
         assert!(run
@@ -31,7 +31,7 @@ fn floor_beams_without_floor_are_not_judged() {
 #[test]
 fn members_with_floor_are_not_judged() {
     let advice = "These are rather the headings of another sheet: a sheet of members is judged without --floor\n";
-    for options in [&[][..], &["--csv"]] {
+    for options in [&[][..], &["--csv"], &["--strengths"]] {
         assert!(stopped(&hall_roof(), options).ends_with(advice));
     }
     let few = "Table 16 row,kc,ka,kb\n1600,400,4200,1,12,1000,45,160\n";
