@@ -1,4 +1,4 @@
-# make demo: the hall roof and the floor beams of examples/, judged. make test: the whole gate; its last line, printed only if
+# make demo: the hall roof and the floor beams of examples/, judged, and the strengths of the hall roof. make test: the whole gate; its last line, printed only if
 # everything passed, is the prover's count 'N passed, 0 failed'. make bench: rows per second beside the second implementation.
 
 CARGO = cargo
@@ -31,12 +31,14 @@ host-tests: prove
 	$(HOST) clippy --offline --workspace --all-targets -- --deny warnings
 	$(HOST) test --offline --profile checked --workspace -- --nocapture
 
-# The command ends with 1 where a member or a beam fails or is refused, as some of both sheets do.
+# The command ends with 1 where a member or a beam fails or is refused, as some of both sheets do; for strengths, where one is refused.
 demo: archive
 	@$(HOST) build --offline --release --quiet --bin sheet
 	@host/target/release/sheet examples/hall-roof.csv; test $$? -le 1
 	@echo
 	@host/target/release/sheet --floor examples/floor-beams.csv; test $$? -le 1
+	@echo
+	@host/target/release/sheet --strengths examples/hall-roof.csv; test $$? -le 1
 
 bench: archive
 	@$(HOST) build --offline --release --quiet --bin bench
