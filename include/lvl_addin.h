@@ -96,11 +96,11 @@
  *
  * THE STRENGTHS
  *
- * A design strength is R = value of Table 7 * t * w * o / 10000000, in kPa
- * (1 kPa is 0.001 N/mm2), rounded down: t and w in hundredths follow from
- * regime and moisture, o is the office factor in thousandths. The checks use
- * R so rounded. The answer is eight doubles in 64 bytes, each lowest byte
- * first, all whole numbers:
+ * A design strength R is value of Table 7 * t * w * o / 10000000, in kPa
+ * (1 kPa is 0.001 N/mm2): t and w in hundredths follow from regime and
+ * moisture, o is the office factor in thousandths. The checks use R rounded
+ * down to a whole number. The answer is eight doubles in 64 bytes, each lowest
+ * byte first, all whole numbers:
  *
  *   bytes  0 to  7   bending, R rounded down, kPa        used in checks 7, 11
  *   bytes  8 to 15   bending, the remainder
@@ -111,10 +111,10 @@
  *   bytes 48 to 55   shear, R rounded down, kPa          8
  *   bytes 56 to 63   shear, the remainder
  *
- * A remainder is what the division by 10000000 leaves, 0 to 9999999: R is the
- * first number plus remainder / 10000000, exactly, which has seven decimals at
- * most. All four are given for a row of any kind; they follow from cells 2 to 5
- * alone.
+ * A remainder is what the division by 10000000 leaves, 0 to 9999999: R with
+ * nothing rounded is the number before it plus remainder / 10000000, exactly,
+ * which has seven decimals at most. All four are given for a row of any kind;
+ * they follow from cells 2 to 5 alone.
  *
  *
  * THE FLOOR BEAM

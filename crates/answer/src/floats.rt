@@ -76,9 +76,9 @@ pub fn write_numbers(out: &mut [u8], numbers: &[u64]) -> Outcome
     }
     let mut i: usize = 0;
     while i < numbers.len() {
-        let start = 8 * i;
-        let end = start + 8;
-        put_float(&mut out[start..end], whole_float(numbers[i]));
+        let at = 8 * i;
+        let end = at + 8;
+        put_float(&mut out[at..end], whole_float(numbers[i]));
         i = i + 1;
     }
     Outcome::Done

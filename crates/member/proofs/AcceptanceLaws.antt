@@ -237,8 +237,9 @@ pub accepted-material : (cells : List Cell) (m : Member) → accept cells ≡ gi
     → m .material ≡ materialOf (valueAt (valuesOf cells) 2) (valueAt (valuesOf cells) 3) (valueAt (valuesOf cells) 4) (valueAt (valuesOf cells) 5)
 accepted-material cells m = by (getD cells 0 Blank)
   where
+    -- it is the same in every kind
     here : Material
-    here = materialOf (valueAt (valuesOf cells) 2) (valueAt (valuesOf cells) 3) (valueAt (valuesOf cells) 4) (valueAt (valuesOf cells) 5)
+    here = memberOf Tension false (valuesOf cells) .material
 
     by-code : (code : KindCode) → acceptCode code cells ≡ gives m → m .material ≡ here
     by-code Unknown e = absurd (let z : _≡_ {A = ℕ} 0 1 = cc in omega arith)

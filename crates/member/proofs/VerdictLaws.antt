@@ -9,14 +9,24 @@ use mathlib.Core.Bool.{Bool, true, false, _||_, true≢false}
 use mathlib.Core.List.{List, [], _∷_, _++_}
 use borrow.Author.Tests.{not-true}
 use Rattle.cells.specs.Greatest.{Among}
+use Rattle.cells.specs.Refusal.{Result, gives, refuses}
 use Rattle.cells.proofs.GreatestLaws.{FirstGreatest, Found, among-cases, greatest-among, greatest-above, greatest-meaning}
 use Rattle.member.specs.Checks.{YesNoCheck, StrengthCheck, yesNo, strength, checkNumber, yesNoChecks, strengthChecks, omitted, netTension, bending, shear, buckling}
 use Rattle.member.specs.Member.{acrossHeight, countOf}
-use Rattle.member.specs.Verdict.{holds, utilisationOf, used, governedBy, hasStrength, governing, byStrength, countOnFail, failedOn, judgeBy}
+use Rattle.member.specs.Verdict.{holds, utilisationOf, used, governedBy, hasStrength, governing, byStrength, countOnFail, failedOn, judgeBy, judged}
 use Rattle.member.specs.declared.kind.Kind.{Kind}
 use Rattle.member.specs.declared.kind.Kind.the-variants.{Tension, Bending, Compression, CompressionBending, TensionBending}
 use Rattle.member.specs.declared.member.Member.{Member}
 use Rattle.member.specs.declared.verdict.Verdict.{Verdict}
+
+-- a row that is judged was accepted, and one that the check refuses was refused so
+pub judged-accepted : (result : Result Member) (v : Verdict) → judged result ≡ gives v → (m : Member) × (result ≡ gives m)
+judged-accepted (gives m) v e = (m, refl)
+judged-accepted (refuses number cell) v e = absurd (let z : _≡_ {A = ℕ} 0 1 = cc in omega arith)
+
+pub judged-refused : (result : Result Member) (number cell : ℕ) → judged result ≡ refuses number cell → result ≡ refuses number cell
+judged-refused (gives m) number cell e = absurd (let z : _≡_ {A = ℕ} 0 1 = cc in omega arith)
+judged-refused (refuses n c) number cell e = cc
 
 -- Lists in which the numbers rise.
 module _ {A : Type 0} (num : A → ℕ) where

@@ -1,14 +1,13 @@
 -- What a design strength and its remainder say of R: together they are R, exactly, and no other two numbers are.
 -- Assumes nothing.
 use Prim.Native.Nat.{ℕ, _+_, _*_, _/_, _%_, _<_}
-use mathlib.Core.Path.{_≡_, refl}
+use mathlib.Core.Path.{_≡_}
 use native.Mathlib.Omega.{arith}
 use Rattle.rounding.specs.Fraction.{whole, fraction, SameValue, _⊕_}
 use Rattle.sp64.specs.declared.tables.Stress.{Stress}
-use Rattle.sp64.specs.declared.tables.Stress.the-variants.{Bending, Compression, Tension, Shear}
 use Rattle.sp64.specs.declared.strength.Material.{Material}
 use Rattle.sp64.specs.Tables.{tableStrength}
-use Rattle.sp64.specs.Strength.{materialOf, undivided, designStrength, strengthRemainder, exactStrength}
+use Rattle.sp64.specs.Strength.{undivided, designStrength, strengthRemainder, exactStrength}
 
 -- of any whole number divided by 10,000,000
 split : (n : ℕ) → n / 10000000 * 10000000 + n % 10000000 ≡ n
@@ -36,19 +35,3 @@ module _ (stress : Stress) (m : Material) where
   -- two numbers that give the product so, the second below 10,000,000, are the strength and the remainder
   pub no-other-two : (s r : ℕ) → s * 10000000 + r ≡ undivided (tableStrength stress (m .grade)) m → r < 10000000 → (s ≡ designStrength stress m) × (r ≡ strengthRemainder stress m)
   no-other-two = only (undivided (tableStrength stress (m .grade)) m)
-
--- K40 in regime Б at 14 percent moisture, with an office factor of 0.917: something is dropped of each strength
-abbrev pub droppedFrom : Material
-droppedFrom = materialOf 2 2 14 917
-
-pub worked-bending : (designStrength Bending droppedFrom ≡ 14871) × (strengthRemainder Bending droppedFrom ≡ 9060000)
-worked-bending = (refl, refl)
-
-pub worked-compression : (designStrength Compression droppedFrom ≡ 13122) × (strengthRemainder Compression droppedFrom ≡ 2700000)
-worked-compression = (refl, refl)
-
-pub worked-tension : (designStrength Tension droppedFrom ≡ 11810) × (strengthRemainder Tension droppedFrom ≡ 430000)
-worked-tension = (refl, refl)
-
-pub worked-shear : (designStrength Shear droppedFrom ≡ 1705) × (strengthRemainder Shear droppedFrom ≡ 8951000)
-worked-shear = (refl, refl)

@@ -3,30 +3,26 @@
 use Prim.Native.Nat.{ℕ}
 use mathlib.Core.List.{List, [], _∷_}
 use mathlib.Core.Path.{_≡_, refl, sym, _∙_, subst}
-use native.Mathlib.Omega.{arith}
 use lib.ListN.{length}
-use Rattle.cells.specs.Refusal.{Result, gives, refuses, refusedBy, refusalCode, leaves, told}
+use Rattle.cells.specs.Refusal.{gives, refusedBy, refusalCode, leaves, told}
 use Rattle.cells.specs.declared.refusal.Refusal.{Refusal}
 use Rattle.cells.specs.declared.row.Cell.{Cell}
-use Rattle.sp64.specs.Strength.{MaterialRanges, materialOf, designStrength, strengthRemainder}
+use Rattle.sp64.specs.Strength.{MaterialRanges, designStrength, strengthRemainder}
 use Rattle.sp64.specs.declared.strength.DesignStrength.{DesignStrength}
 use Rattle.sp64.specs.declared.strength.Material.{Material}
 use Rattle.sp64.specs.declared.tables.Stress.{Stress}
 use Rattle.sp64.specs.declared.tables.Stress.the-variants.{Bending, Compression, Tension, Shear}
 use Rattle.member.specs.Acceptance.{accept}
-use Rattle.member.specs.Member.{valueAt, valuesOf}
-use Rattle.member.specs.Verdict.{judged as byRules, checkRow}
+use Rattle.member.specs.Verdict.{checkRow}
 use Rattle.member.specs.declared.member.Member.{Member}
 use Rattle.member.specs.declared.verdict.Verdict.{Verdict}
 use Rattle.member.proofs.AcceptanceLaws.{accept-ranges, accepted-material}
+use Rattle.member.proofs.VerdictLaws.{judged-accepted, judged-refused}
 use Rattle.worksheet.specs.HostAnswer.{floatsBuffer, floatsResult, wholeFloats}
 use Rattle.worksheet.specs.HostRow.{readHostRow}
 use Rattle.worksheet.proofs.ReadRows.{row-as-read}
 use Rattle.worksheet.specs.Strengths.{always0, strengthNumbers, strengthsBytes, strengthsAnswered, strengthsReturns, strengthsLeaves}
-
--- the material of cells 2 to 5
-abbrev materialIn : List Cell → Material
-materialIn cells = materialOf (valueAt (valuesOf cells) 2) (valueAt (valuesOf cells) 3) (valueAt (valuesOf cells) 4) (valueAt (valuesOf cells) 5)
+use Rattle.strengths.specs.Material.{materialIn}
 
 -- what was computed is the strength and the remainder of a stress
 abbrev Is : Stress → Material → DesignStrength → Type 0
@@ -49,15 +45,6 @@ module _ (m : Material) (answer : List ℕ) where
       × (floatsBuffer (wholeFloats (strengthNumbers m)) answer ≡ leaves (strengthsAnswered (length answer) m) strengthsBytes answer)
   answer-given e = rw e (refl, refl)
 
--- a row that is judged was accepted, and one that the check refuses was refused so
-was-accepted : (result : Result Member) (v : Verdict) → byRules result ≡ gives v → (m : Member) × (result ≡ gives m)
-was-accepted (gives m) v e = (m, refl)
-was-accepted (refuses number cell) v e = absurd (let z : _≡_ {A = ℕ} 0 1 = cc in omega arith)
-
-was-refused : (result : Result Member) (refusal : Refusal) → byRules result ≡ refusedBy refusal → result ≡ refusedBy refusal
-was-refused (gives m) refusal e = absurd (let z : _≡_ {A = ℕ} 0 1 = cc in omega arith)
-was-refused (refuses number cell) refusal e = cc
-
 -- a row that is not read, one that is refused, and one that is judged
 module _ (row answer : List ℕ) where
   pub unread : (refusal : Refusal) → readHostRow row ≡ refusedBy refusal
@@ -66,7 +53,7 @@ module _ (row answer : List ℕ) where
 
   pub refused : (cells : List Cell) (refusal : Refusal) → readHostRow row ≡ gives cells → checkRow cells ≡ refusedBy refusal
       → (refusalCode refusal ≡ strengthsReturns row (length answer)) × (answer ≡ strengthsLeaves row answer)
-  refused cells refusal e f = rw (e, was-refused (accept cells) refusal f) (refl, refl)
+  refused cells refusal e f = rw (e, judged-refused (accept cells) _ _ f) (refl, refl)
 
   module _ (cells : List Cell) (v : Verdict) {material : Material} (read : readHostRow row ≡ gives cells) (judgement : checkRow cells ≡ gives v) (found : material ≡ materialIn cells) where
     is-of : (m : Member) → accept cells ≡ gives m → m .material ≡ material
@@ -74,11 +61,11 @@ module _ (row answer : List ℕ) where
 
     pub judged-material : MaterialRanges material
     judged-material =
-        let was = was-accepted (accept cells) v judgement in
+        let was = judged-accepted (accept cells) v judgement in
         subst MaterialRanges (is-of (was .0) (was .1)) (accept-ranges cells (was .0) (row-as-read row cells read .long) (was .1) .sized .material)
 
     pub judged : (told always0 (strengthsAnswered (length answer) material) ≡ strengthsReturns row (length answer))
         × (leaves (strengthsAnswered (length answer) material) strengthsBytes answer ≡ strengthsLeaves row answer)
     judged =
-        let was = was-accepted (accept cells) v judgement in
+        let was = judged-accepted (accept cells) v judgement in
         rw (read, was .1, is-of (was .0) (was .1)) (refl, refl)

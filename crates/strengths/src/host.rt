@@ -16,9 +16,10 @@ ghost use Prim.Native.Nat.{_<_};
 ghost use lib.ListN.{length, getD};
 ghost use Rattle.cells.specs.Refusal.{leaves, told};
 ghost use Rattle.cells.specs.Row.{cellCount, cellsOf};
-ghost use Rattle.member.specs.Member.{valueAt, valuesOf};
-ghost use Rattle.sp64.specs.Strength.{MaterialRanges, materialOf};
+ghost use Rattle.member.specs.Member.{valuesOf};
+ghost use Rattle.sp64.specs.Strength.{MaterialRanges};
 ghost use Rattle.worksheet.specs.Strengths.{always0, strengthsAnswered, strengthsBytes, strengthsReturns, strengthsLeaves};
+ghost use Rattle.strengths.specs.Material.{materialIn};
 
 // The value of the cell in a place of a row, cell 1 in place 0.
 fn value_at(row: Row, place: usize) -> u64
@@ -33,7 +34,7 @@ fn value_at(row: Row, place: usize) -> u64
 
 // The material that cells 2 to 5 of a row give.
 fn material_in(row: Row) -> Material
-    ensures { λ r. ⌜ r ≡ materialOf (valueAt (valuesOf (cellsOf row)) 2) (valueAt (valuesOf (cellsOf row)) 3) (valueAt (valuesOf (cellsOf row)) 4) (valueAt (valuesOf (cellsOf row)) 5) ⌝ }
+    ensures { λ r. ⌜ r ≡ materialIn (cellsOf row) ⌝ }
 {
     material_of(
         value_at(row, 1),

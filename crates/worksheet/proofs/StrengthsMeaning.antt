@@ -1,7 +1,7 @@
 -- What a host may conclude from the number that the entry for strengths returned, and from the bytes that it left.
 -- Assumes nothing.
 use Prim.Native.Nat.{ℕ, _+_, _≤_, _<_}
-use mathlib.Core.Bool.{Bool, true, false, cond}
+use mathlib.Core.Bool.{Bool, true, false}
 use mathlib.Core.List.{List}
 use mathlib.Core.Path.{_≡_, refl, sym, ap, _∙_, subst}
 use native.Mathlib.Omega.{arith}
@@ -21,16 +21,18 @@ use Rattle.sp64.specs.declared.tables.Stress.the-variants.{Bending, Compression
 use Rattle.sp64.proofs.StrengthLaws.{strength-in}
 use Rattle.sp64.proofs.StrengthMeaning.{remainder-below}
 use Rattle.member.specs.Acceptance.{acceptKind, accept}
-use Rattle.member.specs.Verdict.{verdict, judged, checkRow}
+use Rattle.member.specs.Verdict.{verdict, checkRow}
 use Rattle.member.specs.declared.member.Member.{Member}
 use Rattle.member.specs.declared.verdict.Verdict.{Verdict}
+use Rattle.cells.proofs.ResultLaws.{then-given}
 use Rattle.member.proofs.AcceptanceLaws.{accept-ranges}
+use Rattle.member.proofs.VerdictLaws.{judged-accepted, judged-refused}
 use Rattle.worksheet.specs.Entries.{answered, passOrFail, checkReturns}
 use Rattle.worksheet.specs.HostAnswer.{floatsBytes, wholeFloats}
 use Rattle.worksheet.specs.HostRow.{hostCellAt, hostCellsAt, readHostRow}
 use Rattle.worksheet.specs.Number.{readNumber, readFraction}
 use Rattle.worksheet.specs.Strengths.{always0, strengthNumbers, strengthsBytes, strengthsAnswered, hostStrengths, strengthsReturns, strengthsLeaves}
-use Rattle.worksheet.specs.WorkedStrengths.{strengthsRow, strengthsOfRow}
+use Rattle.worksheet.specs.WorkedStrengths.{strengthsCells, strengthsRow, strengthsOfRow}
 use Rattle.worksheet.proofs.EntryMeaning.{WasRefused, from-1000, untouched, verdict-few, length-last, was-judged}
 use Rattle.worksheet.proofs.FloatsMeaning.{number-held}
 use Rattle.worksheet.proofs.ReadRows.{row-as-read}
@@ -89,30 +91,23 @@ strengths-untouched row answer = untouched always0 strengthsBytes answer (hostSt
 
 -- ---- as in checking
 
--- acceptance refuses where the check does, with the same number and cell
-refused-so : (result : Result Member) (number cell : ℕ) → judged result ≡ refuses number cell → result ≡ refuses number cell
-refused-so (gives m) number cell e = absurd (let z : _≡_ {A = ℕ} 0 1 = cc in omega arith)
-refused-so (refuses n c) number cell e = cc
-
 -- a row that the check refuses is refused alike, whatever the answer's length
 pub refused-as-in-checking : (row : List ℕ) (room number cell : ℕ) → andThen (readHostRow row) checkRow ≡ refuses number cell → hostStrengths row room ≡ refuses number cell
 refused-as-in-checking row room number cell = by (readHostRow row)
   where
     by : (r : Result (List Cell)) → andThen r checkRow ≡ refuses number cell → andThen (andThen r accept) (λ (m : Member). strengthsAnswered room (m .material)) ≡ refuses number cell
-    by (gives cells) e = rw (refused-so (accept cells) number cell e)
+    by (gives cells) e = rw (judged-refused (accept cells) number cell e)
     by (refuses n c) e = cc
 
 -- a row that the check judges has strengths: in 64 bytes, and in no other length
 judged-so : (row : List ℕ) (room : ℕ) (v : Verdict) → andThen (readHostRow row) checkRow ≡ gives v → (m : Material) × (hostStrengths row room ≡ strengthsAnswered room m)
-judged-so row room v = by (readHostRow row)
+judged-so row room v e =
+    let read = then-given (readHostRow row) checkRow v e in
+    let was = judged-accepted (accept (read .0)) v (read .2) in
+    (was .0 .material, by (read .0) (was .0) (read .1) (was .1))
   where
-    by-member : (r : Result Member) → judged r ≡ gives v → (m : Material) × (andThen r (λ (m : Member). strengthsAnswered room (m .material)) ≡ strengthsAnswered room m)
-    by-member (gives m) e = (m .material, refl)
-    by-member (refuses n c) e = absurd (let z : _≡_ {A = ℕ} 0 1 = cc in omega arith)
-
-    by : (r : Result (List Cell)) → andThen r checkRow ≡ gives v → (m : Material) × (andThen (andThen r accept) (λ (m : Member). strengthsAnswered room (m .material)) ≡ strengthsAnswered room m)
-    by (gives cells) e = by-member (accept cells) e
-    by (refuses n c) e = absurd (let z : _≡_ {A = ℕ} 0 1 = cc in omega arith)
+    by : (cells : List Cell) (m : Member) → readHostRow row ≡ gives cells → accept cells ≡ gives m → hostStrengths row room ≡ strengthsAnswered room (m .material)
+    by cells m e a = rw (e, a)
 
 pub judged-in-64 : (row : List ℕ) (v : Verdict) → andThen (readHostRow row) checkRow ≡ gives v → strengthsReturns row 64 ≡ 0
 judged-in-64 row v e = ap (told always0) (judged-so row 64 v e .1)
@@ -179,7 +174,12 @@ zero-or-refused row room = by (hostStrengths row room) (strengths-numbered row r
 
 -- ---- a row worked by hand
 
--- it is given its strengths, and the numbers are those
-pub worked-strengths : (strengthsReturns strengthsRow 64 ≡ 0) × (strengthsLeaves strengthsRow (replicate 64 0) ≡ floatsBytes (wholeFloats strengthsOfRow))
-unfolding lowest hostCellsAt hostCellAt readNumber readFraction ofBits acceptKind
-worked-strengths = (refl, refl)
+-- its bytes are read as its cells
+pub strengths-row-read : readHostRow strengthsRow ≡ gives strengthsCells
+unfolding lowest hostCellsAt hostCellAt readNumber readFraction ofBits
+strengths-row-read = refl
+
+-- so it is given its strengths, and they are these
+pub worked-strengths : (answer : List ℕ) → length answer ≡ 64 → (strengthsReturns strengthsRow (length answer) ≡ 0) × (strengthsLeaves strengthsRow answer ≡ floatsBytes (wholeFloats strengthsOfRow))
+unfolding lowest acceptKind
+worked-strengths answer room = rw (room, strengths-row-read) (refl, refl)

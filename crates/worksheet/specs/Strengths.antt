@@ -29,7 +29,7 @@ strengthNumbers m =
 abbrev pub strengthsBytes : Material → List ℕ
 strengthsBytes m = floatsBytes (wholeFloats (strengthNumbers m))
 
--- strengths in an answer of `room` bytes: refusal 5, cell 0, for another length than 64
+-- request 2, host: strengths in an answer of `room` bytes: refusal 5, cell 0, for another length than 64
 abbrev pub strengthsAnswered : ℕ → Material → Result Material
 strengthsAnswered room m = andThen (floatsResult 8 room) (λ (given : Unit {0}). gives m)
 
@@ -38,7 +38,7 @@ abbrev pub hostStrengths : List ℕ → ℕ → Result Material
 hostStrengths row room =
     andThen (andThen (readHostRow row) accept) (λ (m : Member). strengthsAnswered room (m .material))
 
--- the number for strengths: 0
+-- request 2, host: the number for strengths: 0
 abbrev pub always0 : Material → ℕ
 always0 m = 0
 

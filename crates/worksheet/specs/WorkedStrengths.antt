@@ -1,15 +1,21 @@
--- Request 2: a row as a host hands it over, of whose strengths something is dropped each, and the numbers that it gets.
+-- Request 2: a row of whose strengths something is dropped each, its bytes as a host hands them over, and the numbers that it gets.
 -- Assumes nothing.
 use Prim.Native.Nat.{ℕ}
 use mathlib.Core.List.{List, [], _∷_}
+use Rattle.cells.specs.Row.{cellCount, blanks, fillFrom}
+use Rattle.cells.specs.declared.row.Cell.{Cell}
 
--- a beam of K40, 45 × 240 mm, in regime Б at 14 percent moisture, with an office factor of 0.917, M 4,438,042 and Q 3885: a line for each of its 22 cells
+-- request 2, worked: a beam of K45 (1) in regime Ж (7) at 18 percent moisture, with an office factor of 0.917; 45 × 240 mm, M and Q in cells 9 and 10
+abbrev pub strengthsCells : List Cell
+strengthsCells = fillFrom 1 (2 ∷ 1 ∷ 7 ∷ 18 ∷ 917 ∷ 45 ∷ 240 ∷ []) (fillFrom 9 (4438042 ∷ 3885 ∷ []) (blanks cellCount))
+
+-- its bytes, a line for each cell: 1 and the float of its number, the lowest byte first, or zeros for a blank
 abbrev pub strengthsRow : List ℕ
 strengthsRow =
     1 ∷ 0 ∷ 0 ∷ 0 ∷ 0 ∷ 0 ∷ 0 ∷ 0 ∷ 64 ∷
-    1 ∷ 0 ∷ 0 ∷ 0 ∷ 0 ∷ 0 ∷ 0 ∷ 0 ∷ 64 ∷
-    1 ∷ 0 ∷ 0 ∷ 0 ∷ 0 ∷ 0 ∷ 0 ∷ 0 ∷ 64 ∷
-    1 ∷ 0 ∷ 0 ∷ 0 ∷ 0 ∷ 0 ∷ 0 ∷ 44 ∷ 64 ∷
+    1 ∷ 0 ∷ 0 ∷ 0 ∷ 0 ∷ 0 ∷ 0 ∷ 240 ∷ 63 ∷
+    1 ∷ 0 ∷ 0 ∷ 0 ∷ 0 ∷ 0 ∷ 0 ∷ 28 ∷ 64 ∷
+    1 ∷ 0 ∷ 0 ∷ 0 ∷ 0 ∷ 0 ∷ 0 ∷ 50 ∷ 64 ∷
     1 ∷ 0 ∷ 0 ∷ 0 ∷ 0 ∷ 0 ∷ 168 ∷ 140 ∷ 64 ∷
     1 ∷ 0 ∷ 0 ∷ 0 ∷ 0 ∷ 0 ∷ 128 ∷ 70 ∷ 64 ∷
     1 ∷ 0 ∷ 0 ∷ 0 ∷ 0 ∷ 0 ∷ 0 ∷ 110 ∷ 64 ∷
@@ -30,6 +36,6 @@ strengthsRow =
     0 ∷ 0 ∷ 0 ∷ 0 ∷ 0 ∷ 0 ∷ 0 ∷ 0 ∷ 0 ∷
     []
 
--- the products 148,719,060,000, 131,222,700,000, 118,100,430,000 and 17,058,951,000, each divided by 10,000,000
+-- request 2, worked: 279,666,660,000, 229,470,080,000, 222,299,140,000 and 29,400,854,000, each divided by 10,000,000: quotient and remainder
 abbrev pub strengthsOfRow : List ℕ
-strengthsOfRow = 14871 ∷ 9060000 ∷ 13122 ∷ 2700000 ∷ 11810 ∷ 430000 ∷ 1705 ∷ 8951000 ∷ []
+strengthsOfRow = 27966 ∷ 6660000 ∷ 22947 ∷ 80000 ∷ 22229 ∷ 9140000 ∷ 2940 ∷ 854000 ∷ []

@@ -40,8 +40,8 @@ loop-holds : tie.Need-loop-holds Inv-loop μ-loop
 unfolding floatsBytes
 loop-holds c = (omega arith, omega arith, refl, refl)
 
-mul-start : tie.Need-mul-start Inv-loop μ-loop
-mul-start c = omega arith
+mul-at : tie.Need-mul-at Inv-loop μ-loop
+mul-at c = omega arith
 
 add-end : tie.Need-add-end Inv-loop μ-loop
 add-end c = omega arith
@@ -109,7 +109,7 @@ write-numbers-spec =
     returns
     returns-2
     loop-holds
-    mul-start
+    mul-at
     add-end
     sub-put-float
     part-put-float-start
