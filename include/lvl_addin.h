@@ -113,8 +113,9 @@
  *
  * A remainder is what the division by 10000000 leaves, 0 to 9999999: R with
  * nothing rounded is the number before it plus remainder / 10000000, exactly,
- * which has seven decimals at most. All four are given for a row of any kind;
- * they follow from cells 2 to 5 alone.
+ * which has seven decimals at most: printf("%.0f + 0.%07.0f", number[0],
+ * number[1]) writes both. All four are given for a row of any kind; they follow
+ * from cells 2 to 5 alone.
  *
  *
  * THE FLOOR BEAM

@@ -66,7 +66,9 @@ pub fn schema() -> &'static Schema {
             ],
             vec!["Strength alone, for design loads: sag and lateral stability are not checked."],
         ),
-        strength_table: strength_table::layout("Bending is used by check 7, shear by check 8."),
+        strength_table: strength_table::layout(
+            "Bending is used by the check of bending (7), shear by the check of shear (8).",
+        ),
         by_key: OnceLock::new(),
     });
     &SCHEMA

@@ -16,8 +16,9 @@ use lvl_addin::row::{HostRow, CELLS};
 use std::sync::{LazyLock, OnceLock};
 
 /// By which checks, whatever the kind.
-const STRENGTHS_USED: &str =
-    "Bending is used by checks 7 and 11, compression by 9, 10 and 11, tension by 5, 6 and 11, shear by 8.";
+const STRENGTHS_USED: &str = "\
+Bending is used by the check of bending (7) and of bending with an axial force (11), compression by buckling (9, 10) and 11,
+tension by net tension (5), side pieces (6) and 11, shear by the check of shear (8).";
 
 pub fn schema() -> &'static Schema {
     static SCHEMA: LazyLock<Schema> = LazyLock::new(|| Schema {

@@ -233,8 +233,8 @@ column is blank. A row with anything in a column without a heading is refused.
 What is not clear stops the sheet, and nothing is written: a heading that is not
 known, or is there twice; units other than the cells', in the header or in a line
 above or below it; a second header, of other columns; a line above the header that
-may be a member;
-a quote that may have been closed lines below, with members between.
+may be a member; a quote that may have been closed lines below, with members
+between.
 
 Without a header, or with --by-position, the order decides: the members' names,
 unless the first column begins with a number or is headed \"kind\"; then follow
@@ -275,6 +275,7 @@ bending; 8, shear, uses shear; 9 and 10, buckling, use compression; 11 uses bend
 with compression in kind 4 and with tension in kind 5. A strength that no check of
 the row's kind uses is a dash. Whether a row passes or fails, it has the same
 strengths; one that is refused has dashes, and its reason at the end of the line.
+What was typed and cannot be shown is a question mark.
 
 Floor beams, with --floor: one simply supported beam a row, with loads and a span
 in place of a moment and a shear force. All that is said above holds, but for

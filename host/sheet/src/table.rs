@@ -7,7 +7,7 @@ use crate::table_lines::{Side, Slot, TableLine, TableLines};
 use crate::text::shown;
 use crate::{reasons, Report};
 
-/// The most characters of a name that are shown.
+/// The most columns that a name is shown in.
 const NAME: usize = 40;
 
 /// Stands where there is nothing to say.
@@ -66,7 +66,7 @@ impl<Found> Table<Found> {
         let slots = layout.columns.iter().map(slot).collect();
         Table {
             layout,
-            lines: TableLines::below(heading(schema, layout), slots),
+            lines: TableLines::below(heading(schema, layout), slots, NAME),
         }
     }
 }

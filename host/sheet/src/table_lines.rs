@@ -1,8 +1,8 @@
 //! Lines of a table, one under another: a name, texts in columns, and a last text of any length.
 use crate::text::width;
 
-/// How many lines are looked at to find the width of the names, so that a sheet of any length needs little memory.
-const LOOKED_AT: usize = 1000;
+/// How many lines are held until the width of their names is found, so that a sheet of any length needs little memory.
+const HELD: usize = 1000;
 
 /// The side on which texts begin or end.
 #[derive(Clone, Copy)]
@@ -17,6 +17,17 @@ pub struct Slot {
     pub side: Side,
 }
 
+impl Slot {
+    /// A text in its place, and the gap to what follows.
+    fn filled(&self, text: &str) -> String {
+        let blanks = " ".repeat(self.width.saturating_sub(width(text)));
+        match self.side {
+            Side::Left => format!("{text}{blanks}  "),
+            Side::Right => format!("{blanks}{text}  "),
+        }
+    }
+}
+
 pub struct TableLine {
     pub name: String,
     /// A text for each slot.
@@ -28,6 +39,8 @@ pub struct TableLine {
 pub struct TableLines {
     heading: TableLine,
     slots: Vec<Slot>,
+    /// No name takes more columns.
+    widest_name: usize,
     output: String,
     /// Lines whose names' width is still to be found.
     held: Vec<TableLine>,
@@ -35,10 +48,11 @@ pub struct TableLines {
 }
 
 impl TableLines {
-    pub fn below(heading: TableLine, slots: Vec<Slot>) -> TableLines {
+    pub fn below(heading: TableLine, slots: Vec<Slot>, widest_name: usize) -> TableLines {
         TableLines {
             heading,
             slots,
+            widest_name,
             output: String::new(),
             held: Vec::new(),
             name_width: None,
@@ -46,24 +60,25 @@ impl TableLines {
     }
 
     pub fn add(&mut self, line: TableLine) {
+        if self.name_width.is_none() && self.held.len() == HELD {
+            // Whatever names are still to come, no line may stand under other headings.
+            self.release(self.widest_name);
+        }
         match self.name_width {
             Some(name_width) => {
                 let line = self.aligned(&line, name_width);
                 self.put(&line);
             }
-            None => {
-                self.held.push(line);
-                if self.held.len() == LOOKED_AT {
-                    self.release();
-                }
-            }
+            None => self.held.push(line),
         }
     }
 
     /// All lines, and below them the remarks.
     pub fn finish(mut self, remarks: &[&str]) -> String {
         if !self.held.is_empty() {
-            self.release();
+            let lines = self.held.iter().chain([&self.heading]);
+            let names = lines.map(|line| width(&line.name));
+            self.release(names.max().unwrap_or(0));
         }
         if !remarks.is_empty() {
             self.put("");
@@ -75,10 +90,7 @@ impl TableLines {
     }
 
     /// Puts what is held below the heading, its names aligned; later lines follow at once.
-    fn release(&mut self) {
-        let lines = self.held.iter().chain([&self.heading]);
-        let names = lines.map(|line| width(&line.name));
-        let name_width = names.max().unwrap_or(0);
+    fn release(&mut self, name_width: usize) {
         self.name_width = Some(name_width);
         let heading = self.aligned(&self.heading, name_width);
         self.put(&heading);
@@ -89,14 +101,16 @@ impl TableLines {
     }
 
     fn aligned(&self, line: &TableLine, name_width: usize) -> String {
-        let mut text = format!("{:name_width$}  ", line.name);
-        for (slot, cell) in self.slots.iter().zip(&line.texts) {
-            let width = slot.width;
-            text += &match slot.side {
-                Side::Left => format!("{cell:<width$}  "),
-                Side::Right => format!("{cell:>width$}  "),
-            };
-        }
+        let name = Slot {
+            width: name_width,
+            side: Side::Left,
+        };
+        let slots = [&name].into_iter().chain(&self.slots);
+        let texts = [&line.name].into_iter().chain(&line.texts);
+        let mut text: String = slots
+            .zip(texts)
+            .map(|(slot, text)| slot.filled(text))
+            .collect();
         text += &line.last;
         text.trim_end().to_owned()
     }

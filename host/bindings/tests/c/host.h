@@ -102,7 +102,7 @@ static void print_strengths(const char *name, uint64_t code, const uint8_t *answ
     memcpy(number, answer, sizeof number);
     printf("%s: %u", name, (unsigned)code);
     for (i = 0; i < 4; i++)
-        printf(", %s %.0f + %.7f", stresses[i], number[2 * i], number[2 * i + 1] / LVL_STRENGTH_DIVISOR);
+        printf(", %s %.0f + 0.%07.0f", stresses[i], number[2 * i], number[2 * i + 1]);
     printf("\n");
 }
 

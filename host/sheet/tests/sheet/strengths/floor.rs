@@ -32,7 +32,7 @@ wide     K35    –             13       742                  –               
 grade    ?      –             13       742                  –                  –                  –                  –  cell 2 grade: 4 is not a known code
 
 R in full is the sum of both numbers, exactly; the checks use the first.
-Bending is used by check 7, shear by check 8.
+Bending is used by the check of bending (7), shear by the check of shear (8).
 
 8 rows: 4 with strengths, 4 refused
 ";

@@ -1,6 +1,7 @@
 //! The table of strengths to the letter. All figures are worked out by hand: table value × t × w × o / 10,000,000.
 use super::{row_lines, strengths, strengths_of};
 use crate::common::{table_of, ROW_A, ROW_E};
+use std::collections::BTreeSet;
 
 /// All kinds and grades, every width of a regime's code and of a strength, and rows that are refused.
 const SHEET: &str = "\
@@ -55,7 +56,8 @@ text                     ?      ?              ?         ?                  – 
 blank                    –      –              –         –                  –                  –                  –                  –  cell 2 grade: blank, but kind 2 needs it
 
 R in full is the sum of both numbers, exactly; the checks use the first.
-Bending is used by checks 7 and 11, compression by 9, 10 and 11, tension by 5, 6 and 11, shear by 8.
+Bending is used by the check of bending (7) and of bending with an axial force (11), compression by buckling (9, 10) and 11,
+tension by net tension (5), side pieces (6) and 11, shear by the check of shear (8).
 
 16 rows: 8 with strengths, 8 refused
 ";
@@ -117,13 +119,67 @@ fn names_are_cut_as_in_the_table() {
     assert_eq!(places.collect::<Vec<_>>(), [42; 4]);
 }
 
-/// The width of the names is found once, so that a long sheet needs little memory; all rows are listed.
+/// In a long sheet names have the width of the longest that may follow, so that it needs little memory; all rows are
+/// listed.
 #[test]
 fn a_long_sheet() {
     let rows = vec![ROW_A; 2500];
     let run = strengths_of(&rows);
     assert_eq!(run.summary(), "2500 rows: 2500 with strengths, 0 refused");
-    let one = strengths_of(&[ROW_A]);
-    assert_eq!(row_lines(&run), vec![one.line("A "); 2500]);
+    let long = ROW_A.replace("A,", &format!("{},", "long ".repeat(20)));
+    let beside_a_long_one = strengths_of(&[ROW_A, &long]);
+    assert_eq!(row_lines(&run), vec![beside_a_long_one.line("A "); 2500]);
     assert_eq!(run.out.matches("Why refused").count(), 1);
+}
+
+/// A number under another heading would be another strength.
+#[test]
+fn a_long_name_below_many_short_ones() {
+    let long = ROW_A.replace("A,", "C1 column of axis 1 and A,");
+    for short in [999, 1000, 1001] {
+        let mut rows = vec![ROW_A; short];
+        rows.push(&long);
+        for run in [strengths_of(&rows), table_of(&rows)] {
+            let ends: BTreeSet<usize> = row_lines(&run)
+                .iter()
+                .map(|line| {
+                    start_of(line, "75 × 300")
+                        .or(start_of(line, "25740"))
+                        .unwrap()
+                })
+                .collect();
+            assert_eq!(ends.len(), 1, "{short} short names: {ends:?}");
+        }
+    }
+}
+
+/// Letters with marks of their own, as some programs write й, and letters of two columns.
+#[test]
+fn names_by_the_columns_that_they_take() {
+    let rows = [
+        "крайний",
+        "краи\u{306}нии\u{306}",
+        "梁",
+        &"梁".repeat(30),
+        &"и\u{306}".repeat(60),
+        &format!("A{}", "\u{301}".repeat(100_000)),
+    ]
+    .map(|name| ROW_A.replace("A,", &format!("{name},")));
+    let run = strengths_of(&rows.each_ref().map(String::as_str));
+    let taken = row_lines(&run).into_iter().map(|line| {
+        let before = line.split_once("K45").unwrap().0;
+        let marks = before
+            .chars()
+            .filter(|letter| matches!(letter, '\u{301}' | '\u{306}'));
+        let wide = before.chars().filter(|&letter| letter == '梁');
+        before.chars().count() + wide.count() - marks.count()
+    });
+    assert_eq!(taken.collect::<Vec<_>>(), [42; 6], "{}", run.out);
+    assert!(run.out.len() < 10_000, "{}", run.out.len());
+}
+
+/// The column of a line in which a text begins.
+fn start_of(line: &str, text: &str) -> Option<usize> {
+    let (before, _) = line.split_once(text)?;
+    Some(before.chars().count())
 }
