@@ -110,6 +110,7 @@ static void give_strengths(void)
 {
     uint8_t row[LVL_ROW_BYTES], answer[LVL_STRENGTHS_BYTES];
 
+    printf("strengths: parts of 1/%d\n", LVL_STRENGTH_DIVISOR);
     memset(row, 0, sizeof row);
     fill_row_a(row);
     print_strengths("row A", lvl_strengths(row, sizeof row, answer, sizeof answer), answer);

@@ -2,7 +2,7 @@
 use crate::building::{compile, include_folder, printed, scratch, source, succeed, C99, CPP11};
 use lvl_addin::floor_beam::{BEAM_ANSWER_BYTES, BEAM_BYTES, BEAM_CELLS};
 use lvl_addin::row::{ANSWER_BYTES, CELLS, PACKED_BYTES};
-use lvl_addin::strengths::STRENGTHS_BYTES;
+use lvl_addin::strengths::{STRENGTHS_BYTES, STRENGTH_DIVISOR};
 
 /// What the test hosts print, with the sizes of the bindings: the header's are no others.
 fn expected() -> String {
@@ -19,6 +19,7 @@ no answer: 5000
 moisture 12.5: 1004
 first byte of cell 3: 1003
 answer untouched: {ANSWER_BYTES} of {ANSWER_BYTES}
+strengths: parts of 1/{STRENGTH_DIVISOR}
 row A: 0, bending 25740 + 0.0000000, compression 21120 + 0.0000000, tension 20460 + 0.0000000, shear 2706 + 0.0000000
 something dropped: 0, bending 14871 + 0.9060000, compression 13122 + 0.2700000, tension 11810 + 0.0430000, shear 1705 + 0.8951000
 a row that fails: 0, bending 14871 + 0.9060000, compression 13122 + 0.2700000, tension 11810 + 0.0430000, shear 1705 + 0.8951000
