@@ -1,4 +1,4 @@
--- Request 2: a row of whose strengths something is dropped each, its bytes as a host hands them over, and the numbers that it gets.
+-- Request 2: a row worked by hand, each of whose four strengths drops something: its cells, its bytes as a host hands them over, and the numbers that it gets.
 -- Assumes nothing.
 use Prim.Native.Nat.{ℕ}
 use mathlib.Core.List.{List, [], _∷_}

@@ -17,8 +17,8 @@ use std::sync::{LazyLock, OnceLock};
 
 /// By which checks, whatever the kind.
 const STRENGTHS_USED: &str = "\
-Bending is used by the check of bending (7) and of bending with an axial force (11), compression by buckling (9, 10) and 11,
-tension by net tension (5), side pieces (6) and 11, shear by the check of shear (8).";
+Bending is used by the check of bending (7) and of bending with an axial force (11), compression by buckling (9, 10) and, in kind 4, 11,
+tension by net tension (5), side pieces (6) and, in kind 5, 11, shear by the check of shear (8).";
 
 pub fn schema() -> &'static Schema {
     static SCHEMA: LazyLock<Schema> = LazyLock::new(|| Schema {

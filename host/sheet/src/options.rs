@@ -265,11 +265,12 @@ The table. Utilisation is rounded up to a tenth of a percent, so that a pass is 
 most 100.0 and a fail above it. Checks of layout, slenderness and joint length are
 yes or no and have no figure. All judgement is the proved add-in's.
 
-The strengths, with --strengths. A design strength R = table value × t × w × o /
-10000000 is rounded down to whole kPa. It is listed as 24710 + 0.4000000: what the
-checks use, and what rounding dropped. Their sum is R in full, exactly, since it has
-seven decimals at most. Beside it stands what R follows from: the grade; the regime,
-by its letter and code, for t; the moisture for w; the office factor o.
+The strengths, with --strengths. A design strength R = value of Table 7 × t × w × o /
+10000000, with the value in kPa, t and w in hundredths and o in thousandths, is
+rounded down to whole kPa. It is listed as 24710 + 0.4000000: what the checks use,
+and what rounding dropped. Their sum is R in full, exactly, since it has seven
+decimals at most. Beside it stands what R follows from: the grade; the regime, by
+its letter and code, for t; the moisture for w; the office factor o.
 Check 5, net tension, and 6, tension of side pieces, use tension; 7, bending, uses
 bending; 8, shear, uses shear; 9 and 10, buckling, use compression; 11 uses bending,
 with compression in kind 4 and with tension in kind 5. A strength that no check of

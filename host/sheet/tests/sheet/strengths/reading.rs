@@ -101,8 +101,8 @@ Member               Grade  Regime  Moist. %  Factor ‰       Bending, kPa   Co
 Ёлка                 K45    К (9)         20       977                  –                  –                  –                  –  cell 3 regime: 9 stands for К, which belongs to fire
 
 R in full is the sum of both numbers, exactly; the checks use the first.
-Bending is used by the check of bending (7) and of bending with an axial force (11), compression by buckling (9, 10) and 11,
-tension by net tension (5), side pieces (6) and 11, shear by the check of shear (8).
+Bending is used by the check of bending (7) and of bending with an axial force (11), compression by buckling (9, 10) and, in kind 4, 11,
+tension by net tension (5), side pieces (6) and, in kind 5, 11, shear by the check of shear (8).
 
 2 rows: 1 with strengths, 1 refused
 ";

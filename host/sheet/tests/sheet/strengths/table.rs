@@ -56,8 +56,8 @@ text                     ?      ?              ?         ?                  – 
 blank                    –      –              –         –                  –                  –                  –                  –  cell 2 grade: blank, but kind 2 needs it
 
 R in full is the sum of both numbers, exactly; the checks use the first.
-Bending is used by the check of bending (7) and of bending with an axial force (11), compression by buckling (9, 10) and 11,
-tension by net tension (5), side pieces (6) and 11, shear by the check of shear (8).
+Bending is used by the check of bending (7) and of bending with an axial force (11), compression by buckling (9, 10) and, in kind 4, 11,
+tension by net tension (5), side pieces (6) and, in kind 5, 11, shear by the check of shear (8).
 
 16 rows: 8 with strengths, 8 refused
 ";
