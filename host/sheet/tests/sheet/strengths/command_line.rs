@@ -80,7 +80,7 @@ fn help_and_usage() {
     assert!(help.contains(usage), "{help}");
     for part in [
         "\n  --strengths     lists the strengths that the checks of each row use, in kPa and\n",
-        "R = table value × t × w × o /\n10000000 is rounded down to whole kPa",
+        "R = value of Table 7 × t × w × o /\n10000000, with the value in kPa, t and w in hundredths and o in thousandths, is\nrounded down to whole kPa",
         "Their sum is R in full, exactly",
         "--strengths a member that fails is no failure: 0 no row is refused, 1 a row is.\n",
         "--strengths\nshows the regime that was found",
