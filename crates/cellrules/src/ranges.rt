@@ -5,7 +5,7 @@ ghost use Rattle.cells.specs.Row.{cell_count};
 ghost use Rattle.member.specs.Cells.{least_of, greatest_of, in_range};
 
 // The least and the greatest value of a cell.
-#[derive(Drop)]
+#[derive(Clone, Copy)]
 struct Limits {
     least: u64,
     greatest: u64,

@@ -3,7 +3,7 @@ ghost use Rattle.std.specs.Prelude.{◌≡◌};
 ghost use Rattle.cells.specs.Refusal.{refusal_number, refusal_cell, refusal_code};
 
 // Why an operation refuses, with the cell where there is one.
-#[derive(Drop)]
+#[derive(Clone, Copy)]
 pub enum Refusal {
     // 1: the host's row has another length.
     RowLength,
@@ -24,7 +24,7 @@ pub enum Refusal {
 }
 
 // How an operation ended that hands its value over beside the refusal.
-#[derive(Drop)]
+#[derive(Clone, Copy)]
 pub enum Outcome {
     Done,
     Refused(Refusal),

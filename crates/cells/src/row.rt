@@ -6,19 +6,19 @@ ghost use Rattle.cells.specs.Row.{blank_row};
 pub const CELLS: usize = 22;
 
 // A cell of a row.
-#[derive(Drop)]
+#[derive(Clone, Copy)]
 pub enum Cell {
     Blank,
     Whole(u64),
 }
 
 // A cell as an element of a row: an array within a struct holds structs.
-#[derive(Drop)]
+#[derive(Clone, Copy)]
 pub struct Slot {
     pub cell: Cell,
 }
 
-#[derive(Drop)]
+#[derive(Clone, Copy)]
 pub struct Row {
     pub cells: [Slot; CELLS],
 }

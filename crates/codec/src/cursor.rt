@@ -4,7 +4,7 @@ ghost use Rattle.codec.specs.Place.{start};
 
 // `at` bytes lie behind the place. The `count` lowest bits of `waiting` are on hand: when writing, those not yet written; when reading, those taken in and not
 // yet read.
-#[derive(Drop)]
+#[derive(Clone, Copy)]
 pub struct Cursor {
     pub at: usize,
     pub count: u64,

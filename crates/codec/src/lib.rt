@@ -1,4 +1,5 @@
 // Packing and unpacking a row.
+#![tactic(auto)]
 mod cursor;
 mod measure;
 pub mod pack;

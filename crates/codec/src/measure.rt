@@ -7,7 +7,7 @@ ghost use Rattle.codec.specs.Answers.{measure_of};
 use cells::row::{Cell, Row};
 
 // What cells ask of a buffer: so many bits; or the lowest cell with a value above 34 bits.
-#[derive(Drop)]
+#[derive(Clone, Copy)]
 pub enum Measured {
     Bits(usize),
     TooWide(u32),

@@ -7,7 +7,7 @@ use cells::bytes::byte_value;
 use cells::row::Cell;
 
 // What stands at a place: a cell and the place after it, or the input's end.
-#[derive(Drop)]
+#[derive(Clone, Copy)]
 pub enum NextCell {
     Read(Cell, Cursor),
     Ends,

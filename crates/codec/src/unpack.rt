@@ -13,7 +13,7 @@ use cells::refusal::{Outcome, Refusal};
 use cells::row::{CELLS, Cell, Row, Slot, blank_row};
 
 // What unpacking answers: the row and the bytes it took; on a refusal a blank row and 0.
-#[derive(Drop)]
+#[derive(Clone, Copy)]
 pub struct UnpackedRow {
     pub outcome: Outcome,
     pub bytes: usize,

@@ -1,2 +1,3 @@
 // The dowel joint: layout, dowel count, joint length.
+#![tactic(auto)]
 pub mod joint;

@@ -13,14 +13,14 @@ use worksheet::host_cell::Reading;
 use worksheet::own_cell::OwnNumber;
 
 // The loads and the span of a beam, if they are there and within their ranges.
-#[derive(Drop)]
+#[derive(Clone, Copy)]
 pub enum ReadLoading {
     Accepted(Loading),
     Refused,
 }
 
 // The number of the lowest cell that is unreadable, 0 where none is, and the cells as they were read.
-#[derive(Drop)]
+#[derive(Clone, Copy)]
 pub struct ReadBeamCells {
     pub unreadable: u32,
     pub typed: BeamCells,

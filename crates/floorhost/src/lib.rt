@@ -1,4 +1,5 @@
 // The floor-beam check over lent bytes.
+#![tactic(auto)]
 pub mod host;
 mod host_answer;
 mod host_cells;

@@ -3,7 +3,7 @@ use cells::refusal::Refusal;
 use member::verdict::Verdict;
 
 // Why a floor beam is refused.
-#[derive(Drop)]
+#[derive(Clone, Copy)]
 pub enum BeamRefusal {
     // 8: a load, both together or the span is outside its range.
     LoadOrSpan,
@@ -12,7 +12,7 @@ pub enum BeamRefusal {
 }
 
 // The verdict on the row, and what was made of the loads: the regime's code, M in N·mm and Q in N.
-#[derive(Drop)]
+#[derive(Clone, Copy)]
 pub struct BeamVerdict {
     pub verdict: Verdict,
     pub regime: u32,
@@ -21,7 +21,7 @@ pub struct BeamVerdict {
 }
 
 // What the floor-beam check answers.
-#[derive(Drop)]
+#[derive(Clone, Copy)]
 pub enum BeamAnswer {
     Refused(BeamRefusal),
     Judged(BeamVerdict),

@@ -2,7 +2,7 @@
 use cells::row::Cell;
 
 // The loads on a floor beam, in N/m, and its span, in mm.
-#[derive(Drop)]
+#[derive(Clone, Copy)]
 pub struct Loading {
     // permanent and long-term loads
     pub lasting: u64,
@@ -11,7 +11,7 @@ pub struct Loading {
 }
 
 // Cells 2 and 4 to 7 of the row that is made of the beam.
-#[derive(Drop)]
+#[derive(Clone, Copy)]
 pub struct BeamCells {
     pub grade: Cell,
     pub moisture: Cell,

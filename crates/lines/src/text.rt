@@ -4,7 +4,7 @@
 pub const LINE: usize = 64;
 
 // The bytes of a text, zeros after them, and its length.
-#[derive(Drop)]
+#[derive(Clone, Copy)]
 pub struct Line {
     pub text: [u8; LINE],
     pub len: usize,

@@ -3,7 +3,7 @@ use crate::member::Member;
 use cells::refusal::Refusal;
 
 // Why a row is refused, or the member that it describes.
-#[derive(Drop)]
+#[derive(Clone, Copy)]
 pub enum Accepted {
     Refused(Refusal),
     Member(Member),

@@ -1,6 +1,6 @@
 // The five kinds of member, cell 1.
 
-#[derive(Drop)]
+#[derive(Clone, Copy)]
 pub enum Kind {
     Tension,
     Bending,
@@ -10,7 +10,7 @@ pub enum Kind {
 }
 
 // What the code in cell 1 stands for.
-#[derive(Drop)]
+#[derive(Clone, Copy)]
 pub enum KindCode {
     Known(Kind),
     Unknown,

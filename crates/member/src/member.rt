@@ -4,7 +4,7 @@ use sp64::joint::Joint;
 use sp64::strength::Material;
 
 // The cells of a row by name. A field that the kind does not fill is 0.
-#[derive(Drop)]
+#[derive(Clone, Copy)]
 pub struct Member {
     pub kind: Kind,
     // cells 2 to 5

@@ -3,7 +3,7 @@ use cells::refusal::Refusal;
 
 // Pass or fail, the check that the verdict names, its utilisation in millionths, and the dowel count. Utilisation, count and check, which become floats one after the
 // other, stand apart: side by side, the compiler would turn two at once into floats, in a way that makes −0 of 0 where the host rounds down.
-#[derive(Drop)]
+#[derive(Clone, Copy)]
 pub struct Verdict {
     pub utilisation: u32,
     pub check: u32,
@@ -12,14 +12,14 @@ pub struct Verdict {
 }
 
 // What the row check answers.
-#[derive(Drop)]
+#[derive(Clone, Copy)]
 pub enum Answer {
     Refused(Refusal),
     Judged(Verdict),
 }
 
 // A check and its utilisation.
-#[derive(Drop)]
+#[derive(Clone, Copy)]
 pub struct Governing {
     pub check: u32,
     pub utilisation: u32,

@@ -2,7 +2,7 @@
 use cells::refusal::Refusal;
 
 // The byte count, or why it refuses.
-#[derive(Drop)]
+#[derive(Clone, Copy)]
 pub enum Packed {
     Done(usize),
     Refused(Refusal),

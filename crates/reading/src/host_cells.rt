@@ -11,7 +11,7 @@ use cells::row::{CELLS, Cell, Row, Slot, blank_row};
 use worksheet::host_cell::{HostCell, Reading};
 
 // What reading answers: the row, or a refusal and a blank row.
-#[derive(Drop)]
+#[derive(Clone, Copy)]
 pub struct ReadRow {
     pub outcome: Outcome,
     pub row: Row,

@@ -1,4 +1,6 @@
 // Division rounded up, and the utilisation of a force against a capacity.
+#![tactic(auto)]
+
 ghost use Rattle.std.specs.Prelude.{◌≡◌, ◌+◌, ◌^◌, ◌≤◌, ◌<◌};
 ghost use Rattle.rounding.specs.Range.{Value};
 ghost use Rattle.rounding.specs.Rounding.{up};

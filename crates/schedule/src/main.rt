@@ -1,4 +1,5 @@
 // The program: packed rows from standard input, a line for each to standard output.
+#![tactic(auto)]
 mod attempt;
 mod complaint;
 mod transfer;

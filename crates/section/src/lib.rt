@@ -1,2 +1,3 @@
 // The capacities of a cross-section.
+#![tactic(auto)]
 pub mod capacity;

@@ -1,7 +1,7 @@
 // The dowel joint of a row.
 
 // Cells 14 to 22. Lengths in mm, coefficients of Table 18 in hundredths of N/mm².
-#[derive(Drop)]
+#[derive(Clone, Copy)]
 pub struct Joint {
     // a, the thickness of a side piece
     pub side: u64,

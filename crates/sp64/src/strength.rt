@@ -1,7 +1,7 @@
 // What a design strength follows from, and what is given of it.
 
 // What the strengths of a row follow from: the grade, t and w in hundredths, the office factor o in thousandths.
-#[derive(Drop)]
+#[derive(Clone, Copy)]
 pub struct Material {
     pub grade: u64,
     pub duration: u64,
@@ -10,7 +10,7 @@ pub struct Material {
 }
 
 // A design strength R, in kPa, rounded down, and the remainder of its division, in ten-millionths of a kPa.
-#[derive(Drop)]
+#[derive(Clone, Copy)]
 pub struct DesignStrength {
     pub strength: u64,
     pub remainder: u64,

@@ -1,7 +1,7 @@
 // A member as a strut.
 
 // The effective length L, and the side s across which the member buckles over it, in mm.
-#[derive(Drop)]
+#[derive(Clone, Copy)]
 pub struct Strut {
     pub length: u64,
     pub side: u64,

@@ -1,2 +1,3 @@
 // Request 2: the design strengths of the host's row, over lent bytes.
+#![tactic(auto)]
 pub mod host;

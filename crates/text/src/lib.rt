@@ -1,2 +1,3 @@
 // A line of text, put together by value.
+#![tactic(auto)]
 pub mod text;

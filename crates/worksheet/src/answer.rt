@@ -1,7 +1,7 @@
 // The answer of a check as the host gets it.
 
 // Utilisation, count and check number, in this order.
-#[derive(Drop)]
+#[derive(Clone, Copy)]
 pub struct HostAnswer {
     pub utilisation: f64,
     pub count: f64,

@@ -2,14 +2,14 @@
 use cells::row::Cell;
 
 // A cell as the host has it.
-#[derive(Drop)]
+#[derive(Clone, Copy)]
 pub enum HostCell {
     Blank,
     Number(f64),
 }
 
 // What a host's cell reads as.
-#[derive(Drop)]
+#[derive(Clone, Copy)]
 pub enum Reading {
     Read(Cell),
     Unreadable,

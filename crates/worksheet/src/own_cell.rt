@@ -1,7 +1,7 @@
 // A cell of an operation's own, beside those of a row.
 
 // The number that it holds, if any.
-#[derive(Drop)]
+#[derive(Clone, Copy)]
 pub enum OwnNumber {
     Given(u64),
     Missing,
