@@ -1,5 +1,6 @@
 // Packing and unpacking a row.
 #![tactic(auto)]
+
 mod cursor;
 mod measure;
 pub mod pack;
