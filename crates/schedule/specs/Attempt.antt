@@ -1,15 +1,15 @@
--- What a call of the system's read or write may come to.
+-- What a call of a stream's read or write may come to.
 -- Assumes nothing.
-use Rattle.std.specs.Prelude.{ℕ, ◌<◌, ◌≤◌, ◌≡◌, ℤ, pos}
+use Rattle.std.specs.Prelude.{ℕ, ◌<◌, ◌≤◌, ◌≡◌, Result, Ok, IsErr}
 use Rattle.schedule.specs.declared.attempt.Attempt.{Attempt}
 use Rattle.schedule.specs.declared.attempt.Attempt.TheVariants.{Moved, Nothing, Later, Failed}
 
--- what follows from the answer of a call and the bytes that it moved: a failure is never taken for the end of an input
-abbrev pub Follows : ℤ → ℕ → Attempt → Type 0
-Follows got count (Moved n) = (0 < n) × (n ≡ count)
-Follows got count Nothing = (got ≡ pos 0) × (count ≡ 0)
-Follows got count Later = count ≡ 0
-Follows got count Failed = count ≡ 0
+-- what follows from the answer of a call: a failure is never taken for the end of an input
+abbrev pub Follows : {E : Type 0} → Result ℕ E → Attempt → Type 0
+Follows answer (Moved n) = (0 < n) × (answer ≡ Ok n)
+Follows answer Nothing = answer ≡ Ok 0
+Follows answer Later = IsErr answer
+Follows answer Failed = IsErr answer
 
 -- the bytes that a call moved, if any, are at least one and no more than it was lent
 abbrev pub Within : ℕ → Attempt → Type 0

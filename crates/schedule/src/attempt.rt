@@ -1,6 +1,9 @@
-// One call of the system's read or write, and what came of it.
+// One call of a stream's read or write, and what came of it.
 ghost use Rattle.std.specs.Prelude.{length};
 ghost use Rattle.schedule.specs.Attempt.{Follows, Within};
+
+use std::io;
+use std::io::{ErrorKind, Read, Write};
 
 #[derive(Drop)]
 pub enum Attempt {
@@ -13,39 +16,38 @@ pub enum Attempt {
     Failed,
 }
 
-// EWOULDBLOCK is EAGAIN on Linux.
-fn is_passing(error: i32) -> bool {
-    error == libc::EINTR || error == libc::EAGAIN
+fn is_passing(kind: ErrorKind) -> bool {
+    kind == ErrorKind::Interrupted || kind == ErrorKind::WouldBlock
 }
 
-// What came of a call, just after it: what it answered, and how many bytes it moved.
-fn outcome(got: isize, count: usize) -> Attempt
-    ensures { Follows got count result }
+// What came of a call, by what it answered.
+fn outcome(answer: io::Result<usize>) -> Attempt
+    ensures { Follows answer result }
 {
-    if count > 0 {
-        return Attempt::Moved(count);
+    match answer {
+        Ok(count) => {
+            if count > 0 {
+                return Attempt::Moved(count);
+            }
+            Attempt::Nothing
+        }
+        Err(error) => {
+            if is_passing(error.kind()) {
+                return Attempt::Later;
+            }
+            Attempt::Failed
+        }
     }
-    if got == 0 {
-        return Attempt::Nothing;
-    }
-    if is_passing(os::errno()) {
-        return Attempt::Later;
-    }
-    Attempt::Failed
 }
 
-pub fn read_once(fd: i32, buf: &mut [u8]) -> Attempt
+pub fn read_once(stream: &mut impl Read, buf: &mut [u8]) -> Attempt
     ensures { Within (length buf.old) result }
 {
-    let got = libc::read(fd, buf);
-    let count = io::count(got, buf);
-    outcome(got, count)
+    outcome(stream.read(buf))
 }
 
-pub fn write_once(fd: i32, bytes: &[u8]) -> Attempt
+pub fn write_once(stream: &mut impl Write, bytes: &[u8]) -> Attempt
     ensures { Within (length bytes.now) result }
 {
-    let got = libc::write(fd, bytes);
-    let count = io::count(got, bytes);
-    outcome(got, count)
+    outcome(stream.write(bytes))
 }

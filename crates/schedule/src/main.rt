@@ -1,11 +1,13 @@
 // The program: packed rows from standard input, a line for each to standard output.
 #![tactic(auto)]
+
 mod attempt;
 mod complaint;
 mod transfer;
 mod wait;
 
-use libc::{STDIN_FILENO, STDOUT_FILENO};
+use std::io::Write;
+use std::rt::Clock;
 use transfer::{read_all, write_all};
 
 // At most this many bytes of an input are taken in.
@@ -21,37 +23,30 @@ fn room() -> [u8; 1441834] {
     [0; 1441834]
 }
 
-fn print_lines(input: &[u8]) {
+fn print_lines(clock: &impl Clock, stdout: &mut impl Write, stderr: &mut impl Write, input: &[u8]) {
     if input.len() > MOST_INPUT {
-        complaint::input_cut();
+        complaint::input_cut(clock, stderr);
     }
     let mut text = room();
     let len = report::output::write_lines(input, &mut text);
-    if !deliver(&text[..len]) {
-        complaint::output_lost();
+    if !deliver(clock, stdout, &text[..len]) {
+        complaint::output_lost(clock, stderr);
     }
 }
 
-// Writes the lines; false where some are lost. A disk on a network may say only as a file is closed that it was full. Where there
-// is nothing to print, nothing is lost.
-fn deliver(lines: &[u8]) -> bool {
-    if lines.len() == 0 {
-        return true;
-    }
-    if write_all(STDOUT_FILENO, lines) < lines.len() {
-        return false;
-    }
-    libc::close(STDOUT_FILENO) == 0
+// Writes the lines; false where some are lost. Where there is nothing to print, nothing is lost.
+fn deliver(clock: &impl Clock, stdout: &mut impl Write, lines: &[u8]) -> bool {
+    write_all(clock, stdout, lines) == lines.len()
 }
 
 // An input that could not be read to its end prints nothing: its first lines alone would look like a whole schedule.
-fn main() {
+fn main(rt: HostRuntime) {
     let mut input = input_room();
-    let reading = read_all(STDIN_FILENO, &mut input);
+    let reading = read_all(&rt, &mut rt.stdin(), &mut input);
     if reading.failed {
-        complaint::input_unread();
+        complaint::input_unread(&rt, &mut rt.stderr());
         return;
     }
     let len = reading.len;
-    print_lines(&input[..len]);
+    print_lines(&rt, &mut rt.stdout(), &mut rt.stderr(), &input[..len]);
 }

@@ -4,6 +4,8 @@ ghost use Rattle.io.specs.Counts.{IsPrefixLen};
 
 use crate::attempt::{Attempt, read_once, write_once};
 use crate::wait::wait;
+use std::io::{Read, Write};
+use std::rt::Clock;
 
 // So many bytes were read. Where a read failed, more may have followed.
 #[derive(Drop)]
@@ -17,13 +19,13 @@ pub struct Reading {
 const WAITS: u64 = u64::MAX;
 
 // Reads until the buffer is full, the input ends or a read fails.
-pub fn read_all(fd: i32, buf: &mut [u8]) -> Reading
+pub fn read_all(clock: &impl Clock, stream: &mut impl Read, buf: &mut [u8]) -> Reading
     ensures { IsPrefixLen result.len buf.new }
 {
     let mut len: usize = 0;
     let mut waits = WAITS;
     while len < buf.len() {
-        let attempt = read_once(fd, &mut buf[len..]);
+        let attempt = read_once(stream, &mut buf[len..]);
         match attempt {
             Attempt::Moved(count) => {
                 len = len + count;
@@ -36,7 +38,7 @@ pub fn read_all(fd: i32, buf: &mut [u8]) -> Reading
                     return Reading { len, failed: true };
                 }
                 waits = waits - 1;
-                wait();
+                wait(clock);
             }
             Attempt::Failed => {
                 return Reading { len, failed: true };
@@ -47,13 +49,13 @@ pub fn read_all(fd: i32, buf: &mut [u8]) -> Reading
 }
 
 // Writes all bytes, or stops at a write that takes none or fails: how many were taken, by what the system answered.
-pub fn write_all(fd: i32, bytes: &[u8]) -> usize
+pub fn write_all(clock: &impl Clock, stream: &mut impl Write, bytes: &[u8]) -> usize
     ensures { result ≤ length bytes.now }
 {
     let mut taken: usize = 0;
     let mut waits = WAITS;
     while taken < bytes.len() {
-        let attempt = write_once(fd, &bytes[taken..]);
+        let attempt = write_once(stream, &bytes[taken..]);
         match attempt {
             Attempt::Moved(count) => {
                 taken = taken + count;
@@ -63,7 +65,7 @@ pub fn write_all(fd: i32, bytes: &[u8]) -> usize
                     return taken;
                 }
                 waits = waits - 1;
-                wait();
+                wait(clock);
             }
             Attempt::Nothing | Attempt::Failed => {
                 return taken;
