@@ -3,11 +3,12 @@
 
 mod attempt;
 mod complaint;
+mod disk;
 mod transfer;
 mod wait;
 
 use std::io::Write;
-use std::rt::Clock;
+use std::rt::{Clock, Files};
 use transfer::{read_all, write_all};
 
 // At most this many bytes of an input are taken in.
@@ -23,20 +24,31 @@ fn room() -> [u8; 1441834] {
     [0; 1441834]
 }
 
-fn print_lines(clock: &impl Clock, stdout: &mut impl Write, stderr: &mut impl Write, input: &[u8]) {
+fn print_lines<S: Clock + Files>(
+    system: &S,
+    stdout: &mut impl Write,
+    stderr: &mut impl Write,
+    input: &[u8],
+) {
     if input.len() > MOST_INPUT {
-        complaint::input_cut(clock, stderr);
+        complaint::input_cut(system, stderr);
     }
     let mut text = room();
     let len = report::output::write_lines(input, &mut text);
-    if !deliver(clock, stdout, &text[..len]) {
-        complaint::output_lost(clock, stderr);
+    if !deliver(system, stdout, &text[..len]) {
+        complaint::output_lost(system, stderr);
     }
 }
 
 // Writes the lines; false where some are lost. Where there is nothing to print, nothing is lost.
-fn deliver(clock: &impl Clock, stdout: &mut impl Write, lines: &[u8]) -> bool {
-    write_all(clock, stdout, lines) == lines.len()
+fn deliver<S: Clock + Files>(system: &S, stdout: &mut impl Write, lines: &[u8]) -> bool {
+    if lines.len() == 0 {
+        return true;
+    }
+    if write_all(system, stdout, lines) < lines.len() {
+        return false;
+    }
+    !disk::has_lost(system)
 }
 
 // An input that could not be read to its end prints nothing: its first lines alone would look like a whole schedule.
