@@ -1,5 +1,6 @@
 // Reading: floats to whole numbers, cell by cell, and the host's row of bytes.
 #![tactic(auto)]
+
 pub mod host_cells;
 pub mod host_row;
 pub mod number;
