@@ -1,3 +1,4 @@
 // A line of text, put together by value.
 #![tactic(auto)]
+
 pub mod text;
