@@ -1,3 +1,4 @@
 // The dowel joint: layout, dowel count, joint length.
 #![tactic(auto)]
+
 pub mod joint;

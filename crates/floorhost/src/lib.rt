@@ -1,5 +1,6 @@
 // The floor-beam check over lent bytes.
 #![tactic(auto)]
+
 pub mod host;
 mod host_answer;
 mod host_cells;

@@ -1,3 +1,4 @@
 // What is made of a floor beam's loads and span.
 #![tactic(auto)]
+
 pub mod loads;

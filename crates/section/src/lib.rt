@@ -1,3 +1,4 @@
 // The capacities of a cross-section.
 #![tactic(auto)]
+
 pub mod capacity;

@@ -1,5 +1,6 @@
 // Slenderness, buckling, and axial force with bending.
 #![tactic(auto)]
+
 pub mod buckling;
 pub mod combined;
 pub mod slenderness;
