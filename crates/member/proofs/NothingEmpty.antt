@@ -23,7 +23,7 @@ use Rattle.sp64.specs.declared.strut.Strut.{Strut}
 use Rattle.sp64.proofs.PhiLaws.{Steady}
 use Rattle.sp64.proofs.Denominators.{Proper, scaled_real, net_height_kept, stocky_phi_kept, phi_proper, slender_phi_proper, core_crushing_proper, side_crushing_proper, dowel_bending_proper, strength_proper, tension_proper, net_tension_proper, side_piece_proper, compression_proper, bending_proper, shear_proper, buckling_proper, euler_proper, share_real, remainder_proper, moment_real, combined_real}
 use Rattle.member.specs.Acceptance.{accept}
-use Rattle.member.specs.Checks.{Check, StrengthCheck, yes_no, strength, Has, layout, net_tension, side_pieces, bending, shear, buckling, compression_bending, tension_bending}
+use Rattle.member.specs.Checks.{Check, StrengthCheck, yes_no, strength, Has, net_tension, side_pieces, bending, shear, buckling, compression_bending, tension_bending}
 use Rattle.member.specs.Demand3.{LayoutOrSlenderness}
 use Rattle.member.specs.Member.{across_height, strut_of, limit_of, exact_nrof, exact_mrof}
 use Rattle.member.specs.Ranges.{Sized}

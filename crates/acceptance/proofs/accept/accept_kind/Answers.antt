@@ -1,9 +1,9 @@
 -- `accept_kind` meets its contract: each refusal is that of the first rule that a cell breaks.
 -- Assumes nothing.
-use Rattle.std.proofs.Common.{◌≡◌, sym, ap, ◌∙◌}
+use Rattle.std.proofs.Common.{sym, ap, ◌∙◌}
 use Rattle.cells.specs.Refusal.{gives}
 use Rattle.cells.specs.Row.{cells_of}
-use Rattle.member.specs.Member.{values_of, member_of}
+use Rattle.member.specs.Member.{member_of}
 use Rattle.member.proofs.AcceptanceLaws.{Unbroken, fill_refused, code_refused, range_refused, none_refused}
 use Rattle.acceptance.proofs.accept.accept_kind.Goals as goal
 

@@ -2,7 +2,6 @@
 -- Assumes nothing.
 use Rattle.std.proofs.Common.{◌≡◌, ℕ, ◌+◌, length, arith, rules, sym, ap, ◌∙◌, true, false, not, eqb, ne_eqb}
 use Rattle.cells.specs.Row.{cell_count, cells_of}
-use Rattle.cells.specs.declared.row.Row.{Row}
 use Rattle.cells.proofs.RowLaws.{length_cells}
 use Rattle.member.specs.Acceptance.{begins}
 use Rattle.acceptance.proofs.SearchLaws.{turn, search_end}
