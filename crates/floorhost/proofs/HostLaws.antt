@@ -1,7 +1,7 @@
 -- Reading the host's floor beam, and what the entry returns and leaves, for each way that it can end.
 -- Assumes nothing.
 use Prim.Native.Nat.{ℕ, ◌+◌, ◌*◌}
-use mathlib.Core.Bool.{Bool, true, false, not, cond}
+use mathlib.Core.Bool.{Bool, true, false, cond}
 use mathlib.Core.List.{List}
 use mathlib.Core.Path.{◌≡◌, refl}
 use borrow.Author.Tests.{eq-eqb, ne_eqb}
