@@ -46,14 +46,14 @@ pub holds_number : (n : ℕ) {none line : Line} → none ≡ line_of [] → line
 holds_number n e f = holds_more (decimal n) 20 (number_short n) (holds_none e) f
 
 -- a number of 32 bits after it
-pub holds_field : {most : ℕ} {text : List ℕ} {line longer : Line} (n : ℕ) → n < 2 ^ 32 → HoldsText most text line
+pub holds_field : {most n : ℕ} {text : List ℕ} {line longer : Line} → n < 2 ^ 32 → HoldsText most text line
     → longer ≡ line_of (text_of line ++ field (decimal n)) → HoldsText (most + 11) (text ++ field (decimal n)) longer
-holds_field n few h e = holds_more (field (decimal n)) 11 (field_short n few) h e
+holds_field {n = n} few h e = holds_more (field (decimal n)) 11 (field_short n few) h e
 
 -- the room for it
-pub room_field : {most : ℕ} {text : List ℕ} {line : Line} (n : ℕ) → n < 2 ^ 32 → HoldsText most text line → most + 11 ≤ line_room
+pub room_field : {most n : ℕ} {text : List ℕ} {line : Line} → n < 2 ^ 32 → HoldsText most text line → most + 11 ≤ line_room
     → HasRoom line (length (field (decimal n)))
-room_field n few h fits = room_left _ h (omega (arith, field_short n few))
+room_field {n = n} few h fits = room_left _ h (omega (arith, field_short n few))
 
 -- a line of three parts after its number
 fields_of_three : (a b c d : List ℕ) → ((a ++ b) ++ c) ++ d ≡ a ++ ((b ++ c) ++ d)

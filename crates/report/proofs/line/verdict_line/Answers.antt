@@ -20,38 +20,34 @@ pass_or_fail-judged-requires c = room_left 5 (holds_number c.args.number c.empty
 
 pub with_number_field-check-requires : goal.with_number_field-check-requires
 with_number_field-check-requires c =
-    let v = c.args.verdict in
-    let judged = worded c.args.number v.passes c.empty.ensures c.with_number-numbered.ensures c.pass_or_fail-judged.ensures in
-    room_field v.check (search rules) judged (lit≤ tt)
+    let judged = worded c.args.number c.args.verdict.passes c.empty.ensures c.with_number-numbered.ensures c.pass_or_fail-judged.ensures in
+    room_field (search rules) judged (lit≤ tt)
 
 pub with_number_field-utilisation-requires : goal.with_number_field-utilisation-requires
 with_number_field-utilisation-requires c =
-    let v = c.args.verdict in
-    let judged = worded c.args.number v.passes c.empty.ensures c.with_number-numbered.ensures c.pass_or_fail-judged.ensures in
-    let check = holds_field v.check (search rules) judged c.with_number_field-check.ensures in
-    room_field v.utilisation (search rules) check (lit≤ tt)
+    let judged = worded c.args.number c.args.verdict.passes c.empty.ensures c.with_number-numbered.ensures c.pass_or_fail-judged.ensures in
+    let check = holds_field (search rules) judged c.with_number_field-check.ensures in
+    room_field (search rules) check (lit≤ tt)
 
 pub with_number_field-count-requires : goal.with_number_field-count-requires
 with_number_field-count-requires c =
-    let v = c.args.verdict in
-    let judged = worded c.args.number v.passes c.empty.ensures c.with_number-numbered.ensures c.pass_or_fail-judged.ensures in
-    let check = holds_field v.check (search rules) judged c.with_number_field-check.ensures in
-    let utilisation = holds_field v.utilisation (search rules) check c.with_number_field-utilisation.ensures in
-    room_field v.count (search rules) utilisation (lit≤ tt)
+    let judged = worded c.args.number c.args.verdict.passes c.empty.ensures c.with_number-numbered.ensures c.pass_or_fail-judged.ensures in
+    let check = holds_field (search rules) judged c.with_number_field-check.ensures in
+    let utilisation = holds_field (search rules) check c.with_number_field-utilisation.ensures in
+    room_field (search rules) utilisation (lit≤ tt)
 
 pub with_byte-requires : goal.with_byte-requires
 with_byte-requires c =
-    let v = c.args.verdict in
-    let judged = worded c.args.number v.passes c.empty.ensures c.with_number-numbered.ensures c.pass_or_fail-judged.ensures in
-    let check = holds_field v.check (search rules) judged c.with_number_field-check.ensures in
-    let utilisation = holds_field v.utilisation (search rules) check c.with_number_field-utilisation.ensures in
-    room_left 1 (holds_field v.count (search rules) utilisation c.with_number_field-count.ensures) (lit≤ tt)
+    let judged = worded c.args.number c.args.verdict.passes c.empty.ensures c.with_number-numbered.ensures c.pass_or_fail-judged.ensures in
+    let check = holds_field (search rules) judged c.with_number_field-check.ensures in
+    let utilisation = holds_field (search rules) check c.with_number_field-utilisation.ensures in
+    room_left 1 (holds_field (search rules) utilisation c.with_number_field-count.ensures) (lit≤ tt)
 
 pub returns : goal.returns
 returns c =
     let v = c.args.verdict in
     let judged = worded c.args.number v.passes c.empty.ensures c.with_number-numbered.ensures c.pass_or_fail-judged.ensures in
-    let check = holds_field v.check (search rules) judged c.with_number_field-check.ensures in
-    let utilisation = holds_field v.utilisation (search rules) check c.with_number_field-utilisation.ensures in
-    let count = holds_field v.count (search rules) utilisation c.with_number_field-count.ensures in
+    let check = holds_field (search rules) judged c.with_number_field-check.ensures in
+    let utilisation = holds_field (search rules) check c.with_number_field-utilisation.ensures in
+    let count = holds_field (search rules) utilisation c.with_number_field-count.ensures in
     (holds_more newline 1 (lit≤ tt) count c.with_byte.ensures).is ∙ ap (λ (text : List ℕ). line_of text) (judged_row c.args.number v)
