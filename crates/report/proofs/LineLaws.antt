@@ -38,7 +38,7 @@ pub number_short : (n : ℕ) → length (decimal n) ≤ 20
 number_short n = decimal_room 19 n
 
 -- a number of 32 bits as a field
-field_short : (n : ℕ) → n < 2 ^ 32 → length (field (decimal n)) ≤ 11
+pub field_short : (n : ℕ) → n < 2 ^ 32 → length (field (decimal n)) ≤ 11
 field_short n h = omega (arith, decimal_most 19 9 n (omega arith))
 
 -- a line that holds its row's number alone

@@ -1,12 +1,13 @@
 -- What is written while the rows of an input are gone through: the lines of the rows passed, and room for those to come.
 -- Assumes nothing.
 use Prim.Native.Nat.{ℕ, suc, ◌+◌, ◌*◌, ◌≤◌, ◌<◌}
-use mathlib.Core.Path.{◌≡◌, sym, ap, ap₂, ◌∙◌, subst}
+use mathlib.Core.Path.{◌≡◌, refl, sym, ap, ap₂, ◌∙◌, subst}
 use mathlib.Core.List.{List, [], ◌++◌, append_assoc, append-nil}
 use native.Mathlib.Numerals.{add-one}
 use native.Mathlib.Omega.{arith}
 use lib.ListN.{length, take, drop, length-append, length-drop, drop_of_length-le}
-use lib.Seq.{paste, take_at, drop-drop, drop-append-add}
+use lib.Seq.{length-take-le, paste, take_at, drop-drop, drop-append-add}
+use Rattle.io.specs.Counts.{IsPrefixLen}
 use Rattle.lines.specs.Line.{line_for, taken, step_at}
 use Rattle.lines.specs.Output.{lines_from, lines_of, joined, room_for}
 use Rattle.lines.specs.Text.{line_room, line_of}
@@ -35,12 +36,23 @@ pub record Written (input before : List ℕ) (at number len : ℕ) (out : List �
   -- until the program stops, a row's line is paid for by its bytes
   pub paid : at < length input → len ≤ 22 * at
 
+-- nothing yet
+pub written_none : (input before : List ℕ) → Written input before 0 1 0 before
+written_none input before =
+    record { text = []; long = refl; all = refl; holds = refl; within = omega arith; inside = omega arith; counted = omega arith; paid = λ more. omega arith }
+
 module _ (input before : List ℕ) {at number len : ℕ} {out : List ℕ} (w : Written input before at number len out) where
   -- the buffer keeps its length
-  same_size : length out ≡ length before
+  pub same_size : length out ≡ length before
   same_size =
       ap (length {A = ℕ}) w.holds
       ∙ omega (arith, length-append w.text (drop len before), length-drop len before, w.long, w.within)
+
+  -- what is written lies within it
+  pub written_inside : IsPrefixLen len out
+  written_inside =
+      let inside : len ≤ length out = omega (arith, same_size, w.within) in
+      (inside, sym (length-take-le len out inside))
 
   -- at the end of the input all lines are written
   pub written_all : length input ≤ at → (len ≡ length (joined (lines_of input))) × (out ≡ joined (lines_of input) ++ drop len before)
