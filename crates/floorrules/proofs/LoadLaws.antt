@@ -25,11 +25,9 @@ shear_rounds l = omega (arith, rounding_up (total_load l * l.span) 2000 (lit< tt
 
 -- loads and span within their ranges
 module _ (l : Loading) (given : loading_in_range l ≡ true) where
-  both : (within 100 100000 (total_load l) ≡ true) × (within 500 20000 l.span ≡ true)
-  both = both_true (within 100 100000 (total_load l)) (within 500 20000 l.span) given
-
   pub loading_ranges : LoadingRanges l
   loading_ranges =
+      let both = both_true _ _ given in
       let q = both_true _ _ both.0 in
       let span = both_true _ _ both.1 in
       record {

@@ -1,10 +1,11 @@
 -- Where the regime turns: exactly 80 percent of the total load is still В, and one newton per metre more is Б.
 -- Assumes nothing.
+-- The proofs read a test of either kind, < or ≤, so that what they refuse of another rule is what it says of exactly 80 percent.
 use Prim.Native.Nat.{ℕ, ◌+◌, ◌*◌, ◌≤◌, ◌<◌}
 use native.Mathlib.Omega.{arith}
 use mathlib.Core.Bool.{Bool, true, false}
 use mathlib.Core.Path.{◌≡◌, refl}
-use borrow.Author.Tests.{ltb-true, ltb-false}
+use borrow.Author.Tests.{ltb-true, ltb-false, leb-true, leb-false}
 use Rattle.floorrules.specs.Loads.{total_load, mostly_lasting, regime_of}
 use Rattle.floorrules.specs.WorkedBeams.{loads}
 use Rattle.floorrules.specs.declared.beam.Loading.{Loading}
@@ -15,14 +16,14 @@ above_80_is_2 l above = by (mostly_lasting l) refl
   where
     by : (t : Bool) → mostly_lasting l ≡ t → regime_of l ≡ 2
     by true e = rw e
-    by false e = absurd (omega (arith, ltb-false))
+    by false e = absurd (omega (arith, ltb-false, leb-false))
 
 -- up to 80 percent: В
 pub up_to_80_is_3 : (l : Loading) → 100 * l.lasting ≤ 80 * total_load l → regime_of l ≡ 3
 up_to_80_is_3 l below = by (mostly_lasting l) refl
   where
     by : (t : Bool) → mostly_lasting l ≡ t → regime_of l ≡ 3
-    by true e = absurd (omega (arith, ltb-true))
+    by true e = absurd (omega (arith, ltb-true, leb-true))
     by false e = rw e
 
 module _ (lasting remaining span : ℕ) (exactly : 100 * lasting ≡ 80 * (lasting + remaining)) where
