@@ -1,4 +1,4 @@
-//! Links the add-in's archive, which `rt staticlib addin` writes.
+//! Links the add-in's archive, which `make archive` writes.
 use std::path::PathBuf;
 
 fn main() {
@@ -8,7 +8,7 @@ fn main() {
     println!("cargo:rerun-if-changed={}", archive.display());
     assert!(
         archive.is_file(),
-        "{} is missing: run `rt staticlib addin` first, or `make demo`, which does",
+        "{} is missing: run `make archive` first, or `make demo`, which does",
         archive.display()
     );
     println!("cargo:rustc-link-search=native={}", folder.display());

@@ -41,12 +41,7 @@ fn start() -> Child {
         .stdout(Stdio::piped())
         .stderr(Stdio::piped())
         .spawn();
-    started.unwrap_or_else(|why| {
-        panic!(
-            "{}: {why}; `rt check schedule` builds it",
-            program.display()
-        )
-    })
+    started.unwrap_or_else(|why| panic!("{}: {why}; `make program` builds it", program.display()))
 }
 
 /// What the program prints for an input that is written in pieces of this length, with a pause after each. On standard error it

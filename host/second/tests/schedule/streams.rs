@@ -1,5 +1,5 @@
-//! The program's standard streams where they fail, would make it wait, or are interrupted by a signal. The program has no exit
-//! status: a line on standard error tells of each failure, unless a signal ends the program, which its status tells.
+//! The program's standard streams where they fail, would make it wait, or are interrupted by a signal. The program ends with
+//! status 0: a line on standard error tells of each failure, unless a signal ends the program, which its status tells.
 use super::{printed, program_path, INPUT_CUT, OF_THE_PAPER};
 use lvl_second::{Paper, Rules, INPUT_BYTES};
 use std::fs::File;
@@ -20,7 +20,6 @@ const OUTPUT_LOST: &str =
 const TWO_LINES: [u8; 4] = [0x00, 0x00, 0x00, 0x80];
 
 const SIGSEGV: i32 = 11;
-const SIGPIPE: i32 = 13;
 const SIGCONT: i32 = 18;
 const SIGSTOP: i32 = 19;
 const SIGXFSZ: i32 = 25;
@@ -155,12 +154,14 @@ fn a_limit_of_file_size_ends_the_program_by_the_signal() {
     assert!(ended.stderr.is_empty());
 }
 
-/// A disk on a network may tell only of a file that is closed that it was full: here a library's `close` fails.
+/// A disk on a network may tell only of a file that is synced that it was full: here a library's `fdatasync` fails.
 #[test]
-fn a_disk_that_is_full_at_the_close_is_told() {
-    let source = Scratch::new("full-at-the-close.c");
-    let library = Scratch::new("full-at-the-close.so");
-    let fails = "#include <errno.h>\nint close(int fd) { (void)fd; errno = EDQUOT; return -1; }\n";
+fn a_disk_that_is_full_at_the_sync_is_told() {
+    let source = Scratch::new("full-at-the-sync.c");
+    let library = Scratch::new("full-at-the-sync.so");
+    let lines = Scratch::new("full-at-the-sync.lines");
+    let fails =
+        "#include <errno.h>\nint fdatasync(int fd) { (void)fd; errno = EDQUOT; return -1; }\n";
     std::fs::write(&source.0, fails).expect("a file can be written");
     let compiled = Command::new("gcc")
         .args(["-shared", "-fPIC", "-o"])
@@ -168,8 +169,9 @@ fn a_disk_that_is_full_at_the_close_is_told() {
         .status();
     assert!(compiled.expect("a compiler").success());
     let line = format!(
-        r#"LD_PRELOAD='{}' exec "$0" > /dev/null"#,
-        library.0.display()
+        r#"LD_PRELOAD='{}' exec "$0" > '{}'"#,
+        library.0.display(),
+        lines.0.display()
     );
     assert_says(&fed(by_shell(&line), &TWO_LINES), OUTPUT_LOST);
     assert_says(&fed(by_shell(&line), &[]), "");
@@ -222,15 +224,17 @@ fn without_reader() -> OwnedFd {
     UnixStream::pair().expect("a pair of sockets").0.into()
 }
 
-/// The language cannot ignore the signal: where it is not ignored already, the system ends the program by it, without a line.
+/// The program ignores the signal from its start on: a reader that is gone is told as any failure is.
 #[test]
-fn a_reader_that_is_gone_ends_the_program_by_the_signal() {
+fn a_reader_that_is_gone_is_told() {
     let ended = fed(with_streams(Stdio::piped(), without_reader()), &TWO_LINES);
-    assert_eq!(ended.status.signal(), Some(SIGPIPE));
-    assert!(ended.stderr.is_empty());
+    assert_says(&ended, OUTPUT_LOST);
     let pipeline = by_shell(r#"{ "$0"; echo $? >&2; } | :"#);
     let ended = fed(pipeline, &many_rows());
-    assert_eq!(String::from_utf8_lossy(&ended.stderr), "141\n");
+    assert_eq!(
+        String::from_utf8_lossy(&ended.stderr),
+        format!("{OUTPUT_LOST}0\n")
+    );
 }
 
 #[test]

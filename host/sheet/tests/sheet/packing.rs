@@ -80,12 +80,7 @@ fn the_program_judges_what_was_packed_as_the_sheet_does() {
     let scheduled = Command::new(&program)
         .stdin(packing.stdout.take().unwrap())
         .output()
-        .unwrap_or_else(|why| {
-            panic!(
-                "{}: {why}; `rt check schedule` builds it",
-                program.display()
-            )
-        });
+        .unwrap_or_else(|why| panic!("{}: {why}; `make program` builds it", program.display()));
     assert_eq!(packing.wait().unwrap().code(), Some(1));
     assert_eq!(String::from_utf8(scheduled.stderr).unwrap(), "");
     let sheet = hall_roof();
