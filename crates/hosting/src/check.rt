@@ -6,7 +6,7 @@ ghost use Rattle.worksheet.specs.Entries.{verdict_returns, verdict_leaves, check
 use answer::answer::write_answer;
 use cells::refusal::{Outcome, refusal_code};
 use member::verdict::{Answer, Verdict};
-use reading::host_row::read_host_row;
+use reading::host_row::{read_row_into, row_room};
 use rowcheck::check::check_row;
 
 // A verdict as the host gets it: 0 for pass and 1 for fail, the rest of it in the answer's bytes; or the refusal of the answer's length.
@@ -28,12 +28,12 @@ pub fn check_host_row(row: &[u8], answer: &mut [u8]) -> u64
     ensures buffer { answer.new ≡ check_leaves row.now answer.old }
     ensures demand { HostKeepsDemand3 row.now answer.old result answer.new demand_factor }
 {
-    let read = read_host_row(row);
-    let outcome = read.outcome;
+    let mut read = row_room();
+    let outcome = read_row_into(row, &mut read);
     match outcome {
         Outcome::Refused(refusal) => refusal_code(refusal),
         Outcome::Done => {
-            let checked = check_row(read.row);
+            let checked = check_row(read);
             match checked {
                 Answer::Refused(refusal) => refusal_code(refusal),
                 Answer::Judged(verdict) => answer_verdict(verdict, answer),

@@ -11,7 +11,7 @@ ghost use Rattle.worksheet.specs.Reading.{read_cell};
 use crate::host_cells::{ReadRow, read_cell, refused};
 use cells::bytes::byte_value;
 use cells::refusal::{Outcome, Refusal};
-use cells::row::{CELLS, Slot, blank_row};
+use cells::row::{CELLS, Cell, Row, Slot, blank_row};
 use worksheet::host_cell::{HostCell, Reading};
 
 // The bytes of a host's cell: one that says whether it is filled, and eight of the float.
@@ -74,16 +74,41 @@ pub fn read_host_row(bytes: &[u8]) -> ReadRow
     ensures result { result_of result.outcome (cells_of result.row) ≡ read_host_row bytes.now }
     ensures whole { cells_of result.row ≡ value_or (blanks cell_count) (read_host_row bytes.now) }
 {
-    if bytes.len() != CELL_BYTES * CELLS {
-        return refused(Refusal::RowLength);
-    }
     let mut row = blank_row();
+    let outcome = read_row_into(bytes, &mut row);
+    match outcome {
+        Outcome::Refused(refusal) => refused(refusal),
+        Outcome::Done => ReadRow { outcome, row },
+    }
+}
+
+// A row to be read into. None of its cells is blank: the compiler would write a run of zero bytes by a call of `memset`.
+#[inline(always)]
+pub fn row_room() -> Row
+    ensures { length result.cells ≡ cell_count }
+{
+    let zero = Slot {
+        cell: Cell::Whole(0),
+    };
+    let cells = [zero; CELLS];
+    Row { cells }
+}
+
+// Reads the host's row in place: handed over by value, it would be copied by calls of `memcpy`. A refusal may leave cells written.
+#[inline(always)]
+pub fn read_row_into(bytes: &[u8], row: &mut Row) -> Outcome
+    ensures { result_of result (cells_of row.new) ≡ read_host_row bytes.now }
+{
+    if bytes.len() != CELL_BYTES * CELLS {
+        return Outcome::Refused(Refusal::RowLength);
+    }
+    *row = row_room();
     let mut i: usize = 0;
     while i < CELLS {
         let reading = read_host_cell(bytes, CELL_BYTES * i);
         match reading {
             Reading::Unreadable => {
-                return refused(Refusal::Unreadable((i + 1) as u32));
+                return Outcome::Refused(Refusal::Unreadable((i + 1) as u32));
             }
             Reading::Read(cell) => {
                 row.cells[i] = Slot { cell };
@@ -91,8 +116,5 @@ pub fn read_host_row(bytes: &[u8]) -> ReadRow
         }
         i = i + 1;
     }
-    ReadRow {
-        outcome: Outcome::Done,
-        row,
-    }
+    Outcome::Done
 }

@@ -12,7 +12,7 @@ use cellrules::rules::value_of;
 use cells::refusal::{Outcome, refusal_code};
 use cells::row::Row;
 use member::verdict::Answer;
-use reading::host_row::read_host_row;
+use reading::host_row::{read_row_into, row_room};
 use rowcheck::check::check_row;
 use sp64::strength::Material;
 use sp64::tables::Stress;
@@ -73,14 +73,14 @@ pub fn host_strengths(row: &[u8], answer: &mut [u8]) -> u64
     ensures result { result ≡ strengths_returns row.now (length answer.old) }
     ensures buffer { answer.new ≡ strengths_leaves row.now answer.old }
 {
-    let read = read_host_row(row);
-    let outcome = read.outcome;
+    let mut read = row_room();
+    let outcome = read_row_into(row, &mut read);
     match outcome {
         Outcome::Refused(refusal) => refusal_code(refusal),
         Outcome::Done => {
             // Before the check: after it, a second use of the row would have it copied for the check.
-            let material = material_in(read.row);
-            let checked = check_row(read.row);
+            let material = material_in(read);
+            let checked = check_row(read);
             match checked {
                 Answer::Refused(refusal) => refusal_code(refusal),
                 Answer::Judged(_verdict) => answer_strengths(material, answer),

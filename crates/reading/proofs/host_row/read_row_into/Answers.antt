@@ -1,7 +1,9 @@
--- `read_host_row` meets its contract: up to the cell that the loop has come to, every cell of the host is readable and stored as read.
+-- `read_row_into` meets its contract: up to the cell that the loop has come to, every cell of the host is readable and stored as read.
 -- Assumes nothing.
 use Rattle.std.proofs.Common.{◌≡◌, sym, ap, ◌∙◌, List, ℕ, zero-add, ◌+◌, ◌*◌, ◌<◌, length, get_or, length-set, eq-eqb, arith}
+use Rattle.cells.specs.Refusal.{gives}
 use Rattle.cells.specs.Row.{cell_count}
+use Rattle.cells.proofs.RowLaws.{cells_of_row}
 use Rattle.cells.specs.declared.row.Cell.TheVariants.{Blank}
 use Rattle.cells.proofs.FillLaws.{fill_step, fill_end}
 use Rattle.cells.proofs.LowestLaws.{lowest_end}
@@ -12,8 +14,8 @@ use Rattle.worksheet.specs.declared.host_cell.HostCell.{HostCell}
 use Rattle.worksheet.specs.declared.host_cell.HostCell.TheVariants.{Blank as Empty}
 use Rattle.worksheet.proofs.HostRowLaws.{host_cells_length, host_cells_at_lem}
 use Rattle.worksheet.proofs.ReadingLaws.{as_read, read_given, read_refused}
-use Rattle.reading.proofs.LoopLaws.{says_refused, says_row, unreadable, slots_read, search_on, slots_read_length, slots_read_at}
-use Rattle.reading.proofs.host_row.read_host_row.Goals as goal
+use Rattle.reading.proofs.LoopLaws.{unreadable, slots_read, search_on, slots_read_length, slots_read_at}
+use Rattle.reading.proofs.host_row.read_row_into.Goals as goal
 
 -- the host's cells in these bytes
 abbrev host_cells : List ℕ → List HostCell
@@ -33,10 +35,9 @@ returns-in-Unreadable c =
     let bytes = c.args.bytes.now in
     let i = c.loop-i.i in
     let told = reads-there bytes i _ c.loop-i-test.true c.in-Unreadable.ensures in
-    let says =
-    says_refused _ _ _ c.refused-in-Unreadable.ensures
+    sym
     (read_whole bytes c.if-bytes.false
-    ∙ read_refused (host_cells bytes) i (c.loop-i.invariant.searched ∙ search_on (host_cells bytes) i _ (omega (arith, host_cells_length cell_count bytes 0)) told)) in record { result = says.0; whole = says.1 }
+    ∙ read_refused (host_cells bytes) i (c.loop-i.invariant.searched ∙ search_on (host_cells bytes) i _ (omega (arith, host_cells_length cell_count bytes 0)) told))
 
 pub loop-i-preserved : goal.loop-i-preserved
 loop-i-preserved c =
@@ -63,8 +64,7 @@ returns c =
     let n : length cells ≡ cell_count = host_cells_length cell_count bytes 0 in
     let same : slots ≡ slots_read cells =
     fill_end slots (slots_read cells) i (omega arith) (omega (arith, slots_read_length cells)) c.loop-i.invariant.stored in
-    let says =
-    says_row (as_read cells) _
-    (read_whole bytes c.if-bytes.false
-    ∙ read_given cells (c.loop-i.invariant.searched ∙ lowest_end unreadable cells i (i + 1) (omega arith))) in
-    rw same (record { result = says.0; whole = says.1 })
+    let q =
+    read_whole bytes c.if-bytes.false
+    ∙ read_given cells (c.loop-i.invariant.searched ∙ lowest_end unreadable cells i (i + 1) (omega arith)) in
+    rw same (ap gives (cells_of_row (as_read cells)) ∙ sym q)

@@ -6,7 +6,7 @@ use Rattle.cells.specs.Row.{cell_count}
 use Rattle.worksheet.specs.HostRow.{host_cells_at}
 use Rattle.worksheet.specs.Reading.{lowest_unreadable}
 use Rattle.reading.proofs.LoopLaws.{unreadable, slots_read}
-use Rattle.reading.proofs.host_row.read_host_row.Given as goal
+use Rattle.reading.proofs.host_row.read_row_into.Given as goal
 
 abbrev pub invariant-loop-i : goal.invariant-loop-i
 invariant-loop-i l = record {
