@@ -27,7 +27,7 @@ exact_axial_capacity b h R = whole (b * h) ⊗ R ⊘ whole 1000
 abbrev pub net_height : ℕ → Joint → ℕ
 net_height h j = h - j.across * j.diameter
 
--- check 5 with a joint: b × (h − r × d) × R / 1000, down; without one it is axialCapacity b h R
+-- check 5 with a joint: b × (h − r × d) × R / 1000, down; without one it is axial_capacity b h R
 abbrev pub net_tension_capacity : ℕ → ℕ → Joint → ℕ → ℕ
 net_tension_capacity b h j R = axial_capacity b (net_height h j) R
 

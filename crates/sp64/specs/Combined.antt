@@ -1,4 +1,4 @@
--- Axial force with bending, check 11, rounded and unrounded. C is the capacity NR × φ' / 1,000,000 (eulerCapacity in Buckling).
+-- Axial force with bending, check 11, rounded and unrounded. C is the capacity NR × φ' / 1,000,000 (euler_capacity in Buckling).
 -- Assumes nothing.
 use Rattle.std.specs.Prelude.{ℕ, ◌+◌, ◌-◌, ◌*◌, cond, leb}
 use Rattle.rounding.specs.Rounding.{up}
