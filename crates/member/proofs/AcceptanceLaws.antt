@@ -3,7 +3,7 @@
 use Prim.Native.Nat.{ℕ, ◌+◌, ◌-◌, ◌≤◌, ◌<◌}
 use native.Mathlib.Omega.{arith}
 use mathlib.Core.Path.{◌≡◌, refl, sym, ap, ◌∙◌}
-use mathlib.Core.Bool.{Bool, true, false, not, cond, ◌&&◌, beq, and-false, true≢false}
+use mathlib.Core.Bool.{Bool, true, false, not, cond, ◌&&◌, ◌||◌, beq, and-false, true≢false}
 use mathlib.Core.List.{List}
 use borrow.Author.Tests.{leb-true, le-leb, eqb-true, ne_eqb}
 use lib.Dec.{leb, eqb, lit<, lit≤}
@@ -101,10 +101,13 @@ begun_tension Compression cells e = absurd (none_begun Compression cells (λ n. 
 begun_tension CompressionBending cells e = absurd (none_begun CompressionBending cells (λ n. refl) e)
 begun_tension TensionBending cells e = absurd (none_begun TensionBending cells (λ n. refl) e)
 
+holds_first : {a b : Bool} (c : Bool) → a ≡ true → b ≡ true → a && b || c ≡ true
+holds_first c h k = rw (h, k)
+
 -- every kind fills cells 1 to 7
 first_cells : (kind : Kind) (n : ℕ) → 1 ≤ n → n ≤ 7 → required kind n ≡ true
 first_cells Tension n low high = rw (le-leb 1 n low, le-leb n 8 (omega (arith, high))) refl
-first_cells Bending n low high = rw (le-leb 1 n low, le-leb n 7 high) refl
+first_cells Bending n low high = holds_first _ (le-leb _ _ low) (le-leb _ _ (omega (arith, high)))
 first_cells Compression n low high = rw (le-leb 1 n low, le-leb n 8 (omega (arith, high))) refl
 first_cells CompressionBending n low high = rw (le-leb 1 n low, le-leb n 13 (omega (arith, high))) refl
 first_cells TensionBending n low high = rw (le-leb 1 n low, le-leb n 13 (omega (arith, high))) refl

@@ -1,6 +1,6 @@
 -- `accept_kind` meets its contract: each refusal is that of the first rule that a cell breaks.
 -- Assumes nothing.
-use Rattle.std.proofs.Common.{sym, ap, ◌∙◌}
+use Rattle.std.proofs.Common.{sym, ap, ◌∙◌, arith}
 use Rattle.cells.specs.Refusal.{gives}
 use Rattle.cells.specs.Row.{cells_of}
 use Rattle.member.specs.Member.{member_of}
@@ -35,7 +35,7 @@ returns c =
     record {
       fill = sym c.lowest_misfilled-misfilled.ensures ∙ c.if-misfilled-ne0.false;
       code = sym c.lowest_unknown-unknown.ensures ∙ c.if-unknown-ne0.false;
-      range = sym c.lowest_outside-outside.ensures ∙ c.if-outside-ne0.false;
+      range = omega (arith, c.lowest_outside-outside.ensures);
     } in
     ap gives (c.member_of.ensures ∙ ap (member_of _ _) c.values_of-values.ensures)
     ∙ sym (none_refused _ _ c.is_begun-begun.ensures accepted)

@@ -8,15 +8,15 @@ use Rattle.worksheet.proofs.AnswerMeaning.{answer_is_floats}
 use Rattle.answer.proofs.AnswerLaws.{answer_numbers}
 use Rattle.answer.proofs.answer.write_answer.Goals as goal
 
+pub returns-clause-buffer : goal.returns-clause-buffer
+returns-clause-buffer c =
+    let out = c.args.out.now in
+    let bytes = answer_is_floats c.host_answer-answer.result ∙ ap answer_bytes c.host_answer-answer.ensures in
+    c.write_floats.ensures.buffer ∙ ap (λ (bytes : List ℕ). where_given (answer_room_result (length out)) bytes out) bytes
+
 pub write_floats-requires : goal.write_floats-requires
 write_floats-requires c =
     subst
     (λ (answer : HostAnswer). NoNans (answer.utilisation ∷ answer.count ∷ answer.check ∷ []))
     (sym c.host_answer-answer.ensures)
     (answer_numbers c.args.utilisation c.args.count c.args.check c.ranges.utilisation.fits c.ranges.count.fits c.ranges.check.fits)
-
-pub returns-clause-buffer : goal.returns-clause-buffer
-returns-clause-buffer c =
-    let out = c.args.out.now in
-    let bytes = answer_is_floats c.host_answer-answer.result ∙ ap answer_bytes c.host_answer-answer.ensures in
-    c.write_floats.ensures.buffer ∙ ap (λ (bytes : List ℕ). where_given (answer_room_result (length out)) bytes out) bytes

@@ -15,8 +15,8 @@ overflow_add-size c =
 
 pub returns-then-buffer-size : goal.returns-then-buffer-size
 returns-then-buffer-size c =
-    let e = pack_short _ _ _ c.in-Bits.ensures c.if-buffer-size.true in
+    let e = pack_short _ _ _ c.in-Bits.ensures (omega arith) in
     record { result = sym e; buffer = rw e }
 
 pub returns-else-buffer-size-clause-result : goal.returns-else-buffer-size-clause-result
-returns-else-buffer-size-clause-result c = sym (pack_done _ _ _ c.in-Bits.ensures c.if-buffer-size.false)
+returns-else-buffer-size-clause-result c = sym (pack_done _ _ _ c.in-Bits.ensures (omega arith))

@@ -1,5 +1,6 @@
 -- `next_cell` meets its contract: the first bit that `take_in` leaves, and whether 35 are on hand, decide what stands there.
 -- Assumes nothing.
+use Rattle.std.proofs.Common.{arith}
 use Rattle.codec.proofs.ReaderLaws.{reads_end, reads_blank, reads_short, reads_whole, value_high}
 use Rattle.codec.proofs.reader.next_cell.Goals as goal
 
@@ -19,9 +20,9 @@ returns-then-count-lt35 c =
 pub overflow_sub-result : goal.overflow_sub-result
 overflow_sub-result c =
     let t = c.take_in-full in
-    value_high t.result t.ensures c.if-count-eq0.false c.if-waiting-after-eq0.false c.if-count-lt35.false
+    value_high t.result t.ensures c.if-count-eq0.false c.if-waiting-after-eq0.false (omega arith)
 
 pub returns : goal.returns
 returns c =
     let t = c.take_in-full in
-    reads_whole t.result t.ensures c.if-count-eq0.false c.if-waiting-after-eq0.false c.if-count-lt35.false
+    reads_whole t.result t.ensures c.if-count-eq0.false c.if-waiting-after-eq0.false (omega arith)

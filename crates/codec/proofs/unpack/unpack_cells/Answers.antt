@@ -1,5 +1,6 @@
 -- `unpack_cells` meets its contract: the loop reads one cell after another, and the padding decides at the end.
 -- Assumes nothing.
+use Rattle.std.proofs.Common.{arith}
 use Rattle.codec.proofs.UnpackLaws.{none_yet, read_more, cut_off, bad_padding, row_answer, refusal_answer}
 use Rattle.codec.proofs.unpack.unpack_cells.Goals as goal
 
@@ -22,5 +23,5 @@ returns-then-waiting-ahead-ne0 c =
 
 pub returns : goal.returns
 returns c =
-    let e = row_answer c.loop-i.invariant c.loop-i-test.false c.if-waiting-ahead-ne0.false in
+    let e = row_answer c.loop-i.invariant c.loop-i-test.false (omega arith) in
     record { result = e.0; whole = e.1 }

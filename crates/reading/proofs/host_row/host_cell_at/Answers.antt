@@ -1,6 +1,6 @@
 -- `host_cell_at` meets its contract: the first byte says which cell it is.
 -- Assumes nothing.
-use Rattle.std.proofs.Common.{ap, ◌∙◌, eq-eqb, ne_eqb}
+use Rattle.std.proofs.Common.{ap, ◌∙◌, arith, eq-eqb, ne_eqb, get_or}
 use Rattle.std.specs.Float.{binary64}
 use Rattle.std.specs.Float.Ieee.{of_bits}
 use Rattle.worksheet.specs.HostRow.{host_cell_at}
@@ -20,4 +20,4 @@ returns-then-filled-eq1 c =
 
 pub returns : goal.returns
 unfolding host_cell_at
-returns c = rw (ne_eqb _ _ c.if-filled-eq0.false, ne_eqb _ _ c.if-filled-eq1.false) (ap Number zero_by_zero)
+returns c = rw (ne_eqb _ _ c.if-filled-eq0.false, ne_eqb (get_or c.args.bytes.now c.args.at 0) 1 (λ e. omega arith)) (ap Number zero_by_zero)

@@ -4,8 +4,8 @@ use Rattle.std.proofs.Common.{rules, arith}
 use Rattle.sp64.proofs.StrengthLaws.{undivided_in}
 use Rattle.strength.proofs.design.undivided_product.Goals as goal
 
-pub overflow_mul-result-3 : goal.overflow_mul-result-3
-overflow_mul-result-3 c = omega (arith, undivided_in c.requires.1 c.requires.0)
-
 pub returns : goal.returns
 returns c = record { exact = search rules; range = undivided_in c.requires.1 c.requires.0 }
+
+pub overflow_mul-result-3 : goal.overflow_mul-result-3
+overflow_mul-result-3 c = omega (arith, undivided_in c.requires.1 c.requires.0)
