@@ -3,10 +3,11 @@ ghost use Rattle.std.specs.Prelude.{◌≡◌, ◌+◌, ◌^◌, ◌≤◌, ◌<
 ghost use Rattle.std.specs.Float.{binary64};
 ghost use Rattle.std.specs.Float.Ieee.{of_bits};
 ghost use Rattle.cells.specs.Refusal.{result_of, value_or};
-ghost use Rattle.cells.specs.Row.{cell_count, cells_of, blanks};
+ghost use Rattle.cells.specs.Row.{cell_count, cells_of, row_of, blanks};
 ghost use Rattle.cells.specs.HostBytes.{half_word_at, word_at};
 ghost use Rattle.worksheet.specs.HostRow.{host_cell_bytes, host_cell_at, read_host_row};
 ghost use Rattle.worksheet.specs.Reading.{read_cell};
+ghost use Rattle.reading.specs.Room.{zeros};
 
 use crate::host_cells::{ReadRow, read_cell, refused};
 use cells::bytes::byte_value;
@@ -85,7 +86,7 @@ pub fn read_host_row(bytes: &[u8]) -> ReadRow
 // A row to be read into. None of its cells is blank: the compiler would write a run of zero bytes by a call of `memset`.
 #[inline(always)]
 pub fn row_room() -> Row
-    ensures { length result.cells ≡ cell_count }
+    ensures { result ≡ row_of zeros }
 {
     let zero = Slot {
         cell: Cell::Whole(0),
@@ -94,20 +95,22 @@ pub fn row_room() -> Row
     Row { cells }
 }
 
-// Reads the host's row in place: handed over by value, it would be copied by calls of `memcpy`. A refusal may leave cells written.
+// Reads the host's row in place: handed over by value, it would be copied by calls of `memcpy`. A refusal leaves zeros, whatever the row held.
 #[inline(always)]
 pub fn read_row_into(bytes: &[u8], row: &mut Row) -> Outcome
-    ensures { result_of result (cells_of row.new) ≡ read_host_row bytes.now }
+    ensures result { result_of result (cells_of row.new) ≡ read_host_row bytes.now }
+    ensures whole { cells_of row.new ≡ value_or zeros (read_host_row bytes.now) }
 {
+    *row = row_room();
     if bytes.len() != CELL_BYTES * CELLS {
         return Outcome::Refused(Refusal::RowLength);
     }
-    *row = row_room();
     let mut i: usize = 0;
     while i < CELLS {
         let reading = read_host_cell(bytes, CELL_BYTES * i);
         match reading {
             Reading::Unreadable => {
+                *row = row_room();
                 return Outcome::Refused(Refusal::Unreadable((i + 1) as u32));
             }
             Reading::Read(cell) => {

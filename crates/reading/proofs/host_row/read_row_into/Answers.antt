@@ -14,6 +14,7 @@ use Rattle.worksheet.specs.declared.host_cell.HostCell.{HostCell}
 use Rattle.worksheet.specs.declared.host_cell.HostCell.TheVariants.{Blank as Empty}
 use Rattle.worksheet.proofs.HostRowLaws.{host_cells_length, host_cells_at_lem}
 use Rattle.worksheet.proofs.ReadingLaws.{as_read, read_given, read_refused}
+use Rattle.reading.specs.Room.{zeros}
 use Rattle.reading.proofs.LoopLaws.{unreadable, slots_read, search_on, slots_read_length, slots_read_at}
 use Rattle.reading.proofs.host_row.read_row_into.Goals as goal
 
@@ -35,9 +36,10 @@ returns-in-Unreadable c =
     let bytes = c.args.bytes.now in
     let i = c.loop-i.i in
     let told = reads-there bytes i _ c.loop-i-test.true c.in-Unreadable.ensures in
-    sym
-    (read_whole bytes c.if-bytes.false
-    ∙ read_refused (host_cells bytes) i (c.loop-i.invariant.searched ∙ search_on (host_cells bytes) i _ (omega (arith, host_cells_length cell_count bytes 0)) told))
+    let q =
+    read_whole bytes c.if-bytes.false
+    ∙ read_refused (host_cells bytes) i (c.loop-i.invariant.searched ∙ search_on (host_cells bytes) i _ (omega (arith, host_cells_length cell_count bytes 0)) told) in
+    record { result = sym q; whole = rw (q, c.row_room-in-Unreadable.ensures) (cells_of_row zeros) }
 
 pub loop-i-preserved : goal.loop-i-preserved
 loop-i-preserved c =
@@ -67,4 +69,4 @@ returns c =
     let q =
     read_whole bytes c.if-bytes.false
     ∙ read_given cells (c.loop-i.invariant.searched ∙ lowest_end unreadable cells i (i + 1) (omega arith)) in
-    rw same (ap gives (cells_of_row (as_read cells)) ∙ sym q)
+    rw same (record { result = ap gives (cells_of_row (as_read cells)) ∙ sym q; whole = rw q (cells_of_row (as_read cells)) })
