@@ -1,21 +1,29 @@
--- The result that an outcome stands for, by its cases; and what a refusal does to what comes after it.
+-- What an answer says is the answer; and what a refusal does to what comes after it.
 -- Assumes nothing.
 use Prim.Native.Nat.{ℕ}
 use native.Mathlib.Omega.{arith}
 use mathlib.Core.List.{List}
-use mathlib.Core.Path.{◌≡◌, refl, ap}
-use Rattle.cells.specs.Refusal.{Result, gives, refuses, refused_by, refusal_code, result_of, and_then, leaves, told}
-use Rattle.cells.specs.declared.refusal.Outcome.{Outcome}
-use Rattle.cells.specs.declared.refusal.Outcome.TheVariants.{Done, Refused}
+use mathlib.Core.Path.{◌≡◌, refl, sym, ap, subst}
+use Rattle.std.specs.Prelude.{Result as Answer, Ok, Err}
+use Rattle.cells.specs.Refusal.{Result, gives, refuses, refused_by, refusal_code, by_number, result_of, value_or, and_then, leaves, told}
 use Rattle.cells.specs.declared.refusal.Refusal.{Refusal}
 
--- the result beside an outcome that refuses
-pub refused_result : {A : Type 0} (outcome : Outcome) (value : A) {refusal : Refusal} → outcome ≡ Refused refusal → result_of outcome value ≡ refused_by refusal
-refused_result outcome value e = ap (λ (o : Outcome). result_of o value) e
+-- the result beside an answer that refuses
+pub refused_result : {A : Type 0} (answer : Answer (Unit {0}) Refusal) (value : A) {refusal : Refusal} → answer ≡ Err refusal → result_of answer value ≡ refused_by refusal
+refused_result answer value e = ap (λ (o : Answer (Unit {0}) Refusal). result_of o value) e
 
--- the result beside an outcome that does not
-pub done_result : {A : Type 0} (outcome : Outcome) (value : A) → outcome ≡ Done → result_of outcome value ≡ gives value
-done_result outcome value e = ap (λ (o : Outcome). result_of o value) e
+-- the result beside an answer that does not
+pub done_result : {A : Type 0} (answer : Answer (Unit {0}) Refusal) (value : A) → answer ≡ Ok tt → result_of answer value ≡ gives value
+done_result answer value e = ap (λ (o : Answer (Unit {0}) Refusal). result_of o value) e
+
+abbrev Gives : {A : Type 0} → Result A → Type 0
+Gives (gives value) = Unit {0}
+Gives (refuses number cell) = ⊥
+
+-- an answer that says a value is that value
+pub answer_given : {A : Type 0} (answer : Answer A Refusal) (value : A) → by_number answer ≡ gives value → answer ≡ Ok value
+answer_given {A = A} (Err refusal) value e = absurd (subst (λ (r : Result A). Gives r) (sym e) tt)
+answer_given {A = A} (Ok other) value e = ap (λ (r : Result A). Ok (value_or other r)) e
 
 -- the first refusal stands: what comes after it is not looked at, the lent bytes stay as they were, and the host is told its code
 pub refusal_stands : {A B : Type 0} (refusal : Refusal) (next : A → Result B) → and_then (refused_by refusal) next ≡ refused_by refusal

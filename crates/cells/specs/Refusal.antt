@@ -1,10 +1,8 @@
 -- The refusals 1 to 7 by number and cell, what an operation gives, and how operations chain.
 -- Assumes nothing.
-use Rattle.std.specs.Prelude.{ℕ, ◌+◌, ◌*◌, List}
+use Rattle.std.specs.Prelude.{ℕ, ◌+◌, ◌*◌, List, Result as Answer, Ok, Err}
 use Rattle.cells.specs.declared.refusal.Refusal.{Refusal}
 use Rattle.cells.specs.declared.refusal.Refusal.TheVariants.{RowLength, Unreadable, Misfilled, UnknownCode, OutOfRange, BufferSize, CutOff, Padding}
-use Rattle.cells.specs.declared.refusal.Outcome.{Outcome}
-use Rattle.cells.specs.declared.refusal.Outcome.TheVariants.{Done, Refused}
 
 -- document 01's number of a refusal
 abbrev pub refusal_number : Refusal → ℕ
@@ -41,10 +39,20 @@ pub data Result (A : Type 0) : Type 0 where
 abbrev pub refused_by : {A : Type 0} → Refusal → Result A
 refused_by refusal = refuses (refusal_number refusal) (refusal_cell refusal)
 
--- the result that an outcome and the value beside it stand for
-abbrev pub result_of : {A : Type 0} → Outcome → A → Result A
-result_of Done value = gives value
-result_of (Refused refusal) value = refused_by refusal
+-- what the code's answer says in document 01's terms: its value, or its refusal by number and cell
+abbrev pub by_number : {A : Type 0} → Answer A Refusal → Result A
+by_number (Ok value) = gives value
+by_number (Err refusal) = refused_by refusal
+
+-- the same of an answer without a value, and of what was handed over beside it
+abbrev pub result_of : {A : Type 0} → Answer (Unit {0}) Refusal → A → Result A
+result_of (Ok done) value = gives value
+result_of (Err refusal) value = refused_by refusal
+
+-- a result with its value in other terms
+abbrev pub map_given : {A B : Type 0} → (A → B) → Result A → Result B
+map_given in_other_terms (gives value) = gives (in_other_terms value)
+map_given in_other_terms (refuses number cell) = refuses number cell
 
 -- the value of a result, and `nothing` in its place where it is a refusal
 abbrev pub value_or : {A : Type 0} → A → Result A → A

@@ -1,10 +1,11 @@
 -- Cells and rows.
 -- Assumes nothing.
-use Rattle.std.specs.Prelude.{ℕ, ◌+◌, ◌-◌, List, [], ◌∷◌, map, replicate, set}
-use Rattle.cells.specs.declared.row.Cell.{Cell}
-use Rattle.cells.specs.declared.row.Cell.TheVariants.{Blank, Whole}
-use Rattle.cells.specs.declared.row.Slot.{Slot}
+use Rattle.std.specs.Prelude.{ℕ, ◌+◌, ◌-◌, List, [], ◌∷◌, replicate, set, Option, Some, None}
 use Rattle.cells.specs.declared.row.Row.{Row}
+
+-- a cell: a whole number, none where it is blank
+abbrev pub Cell : Type 0
+Cell = Option ℕ
 
 -- how many cells a row has
 abbrev pub cell_count : ℕ
@@ -16,15 +17,15 @@ value_bits = 34
 
 -- the cells of a row, cell 1 first
 abbrev pub cells_of : Row → List Cell
-cells_of row = map (λ (slot : Slot). slot.cell) row.cells
+cells_of row = row.cells
 
 -- the row of given cells
 abbrev pub row_of : List Cell → Row
-row_of cells = record { cells = map (λ (cell : Cell). record { cell = cell }) cells }
+row_of cells = record { cells = cells }
 
 -- n blank cells
 abbrev pub blanks : ℕ → List Cell
-blanks n = replicate n Blank
+blanks n = replicate n None
 
 -- the cells with another in the place of cell n
 abbrev pub with_cell : ℕ → Cell → List Cell → List Cell
@@ -33,7 +34,7 @@ with_cell n cell cells = set cells (n - 1) cell
 -- the cells with values in them from cell n on
 abbrev pub fill_from : ℕ → List ℕ → List Cell → List Cell
 fill_from n [] cells = cells
-fill_from n (value ∷ values) cells = with_cell n (Whole value) (fill_from (n + 1) values cells)
+fill_from n (value ∷ values) cells = with_cell n (Some value) (fill_from (n + 1) values cells)
 
 -- the row in which every cell is blank
 abbrev pub blank_row : Row

@@ -1,6 +1,5 @@
 // Cells and rows of whole numbers, and the refusals of document 01.
 #![tactic(auto)]
 
-pub mod bytes;
 pub mod refusal;
 pub mod row;

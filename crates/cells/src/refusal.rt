@@ -1,9 +1,10 @@
-// The refusals of document 01, 1 to 7.
+// The refusals of document 01, 1 to 7. What an answer of the code says in their numbers is a definition, `by_number`, or `result_of` where the value is handed over
+// beside the answer: document 01 asks that the promises go by such a definition (decision 31).
 ghost use Rattle.std.specs.Prelude.{◌≡◌};
 ghost use Rattle.cells.specs.Refusal.{refusal_number, refusal_cell, refusal_code};
 
 // Why an operation refuses, with the cell where there is one.
-#[derive(Clone, Copy)]
+#[derive(Clone, Copy, Debug, PartialEq, Eq)]
 pub enum Refusal {
     // 1: the host's row has another length.
     RowLength,
@@ -23,48 +24,43 @@ pub enum Refusal {
     Padding,
 }
 
-// How an operation ended that hands its value over beside the refusal.
-#[derive(Clone, Copy)]
-pub enum Outcome {
-    Done,
-    Refused(Refusal),
-}
-
-// Document 01's number of a refusal.
-pub fn refusal_number(refusal: Refusal) -> u32
-    ensures { result ≡ refusal_number refusal }
-{
-    match refusal {
-        Refusal::RowLength => 1,
-        Refusal::Unreadable(_) => 1,
-        Refusal::Misfilled(_) => 2,
-        Refusal::UnknownCode(_) => 3,
-        Refusal::OutOfRange(_) => 4,
-        Refusal::BufferSize => 5,
-        Refusal::CutOff(_) => 6,
-        Refusal::Padding => 7,
+impl Refusal {
+    // Document 01's number of a refusal.
+    pub fn number(self) -> u32
+        ensures { result ≡ refusal_number self }
+    {
+        match self {
+            Refusal::RowLength => 1,
+            Refusal::Unreadable(_) => 1,
+            Refusal::Misfilled(_) => 2,
+            Refusal::UnknownCode(_) => 3,
+            Refusal::OutOfRange(_) => 4,
+            Refusal::BufferSize => 5,
+            Refusal::CutOff(_) => 6,
+            Refusal::Padding => 7,
+        }
     }
-}
 
-// The cell that a refusal names, and 0 where it is tied to none.
-pub fn refusal_cell(refusal: Refusal) -> u32
-    ensures { result ≡ refusal_cell refusal }
-{
-    match refusal {
-        Refusal::RowLength => 0,
-        Refusal::Unreadable(cell) => cell,
-        Refusal::Misfilled(cell) => cell,
-        Refusal::UnknownCode(cell) => cell,
-        Refusal::OutOfRange(cell) => cell,
-        Refusal::BufferSize => 0,
-        Refusal::CutOff(cell) => cell,
-        Refusal::Padding => 0,
+    // The cell that a refusal names; document 01 gives 0 where it is tied to none.
+    pub fn cell(self) -> u32
+        ensures { result ≡ refusal_cell self }
+    {
+        match self {
+            Refusal::RowLength => 0,
+            Refusal::Unreadable(cell) => cell,
+            Refusal::Misfilled(cell) => cell,
+            Refusal::UnknownCode(cell) => cell,
+            Refusal::OutOfRange(cell) => cell,
+            Refusal::BufferSize => 0,
+            Refusal::CutOff(cell) => cell,
+            Refusal::Padding => 0,
+        }
     }
-}
 
-// What the host is told of a refusal: 1000 × number + cell.
-pub fn refusal_code(refusal: Refusal) -> u64
-    ensures { result ≡ refusal_code refusal }
-{
-    1000 * (refusal_number(refusal) as u64) + (refusal_cell(refusal) as u64)
+    // What the host is told of a refusal: 1000 × number + cell.
+    pub fn code(self) -> u64
+        ensures { result ≡ refusal_code self }
+    {
+        1000 * u64::from(self.number()) + u64::from(self.cell())
+    }
 }

@@ -5,29 +5,21 @@ ghost use Rattle.cells.specs.Row.{blank_row};
 // How many cells a row has: `cell_count`, as `blank_row` shows.
 pub const CELLS: usize = 22;
 
-// A cell of a row.
-#[derive(Clone, Copy)]
-pub enum Cell {
-    Blank,
-    Whole(u64),
-}
+// A cell of a row: a whole number, or none where it is blank.
+pub type Cell = Option<u64>;
 
-// A cell as an element of a row: an array within a struct holds structs.
-#[derive(Clone, Copy)]
-pub struct Slot {
-    pub cell: Cell,
-}
-
+// The cells of a row, cell 1 first. By number and not by name: document 01 packs them in order and names a refused one by its number; `Member` has the names. Contracts
+// take the list of them, `cells_of`, as the definitions do.
 #[derive(Clone, Copy)]
 pub struct Row {
-    pub cells: [Slot; CELLS],
+    pub cells: [Cell; CELLS],
 }
 
-// The row in which every cell is blank.
+// The row in which every cell is blank: no `Default`, since it goes by the definition's name.
 pub fn blank_row() -> Row
     ensures { result ≡ blank_row }
 {
-    let blank = Slot { cell: Cell::Blank };
-    let cells = [blank; CELLS];
-    Row { cells }
+    Row {
+        cells: [None; CELLS],
+    }
 }

@@ -8,23 +8,26 @@ use mathlib.Core.Logic.{◌⊎◌, inl, inr}
 use mathlib.Core.Path.{◌≡◌, refl, sym, subst}
 use borrow.Author.Tests.{le-leb, lt-leb}
 use lib.Dec.{eqb}
+use Rattle.std.specs.Prelude.{None, Some}
 use Rattle.rounding.specs.Fraction.{scaled, ◌≼◌}
 use Rattle.rounding.specs.Range.{In}
 use Rattle.cells.specs.Greatest.{Among}
 use Rattle.cells.specs.Refusal.{Result, gives, refuses}
-use Rattle.cells.specs.Row.{cell_count}
-use Rattle.cells.specs.declared.row.Cell.{Cell}
-use Rattle.cells.specs.declared.row.Cell.TheVariants.{Blank, Whole}
+use Rattle.cells.specs.Row.{cell_count, Cell}
 use Rattle.cells.proofs.LowestLaws.{lowest_cons, lowest_of_copies}
 use Rattle.sp64.specs.Capacity.{exact_shear_capacity}
 use Rattle.sp64.specs.Strength.{exact_strength}
 use Rattle.sp64.specs.declared.tables.Stress.TheVariants.{Shear}
 use Rattle.member.specs.Acceptance.{misfilled, unknown_code, out_of_range, lowest_cell, is_begun, unless_refused, accept_kind, accept}
-use Rattle.member.specs.Checks.{Check, StrengthCheck, yes_no, strength, bending, shear, check_number, Has}
+use Rattle.member.specs.Checks.{check_number, Has}
 use Rattle.member.specs.Demand3.{Demand3At}
 use Rattle.member.specs.Member.{exact_mrof, member_of, values_of}
 use Rattle.member.specs.Unrounded.{times, Holds}
 use Rattle.member.specs.Verdict.{verdict}
+use Rattle.member.specs.declared.check.Check.{Check}
+use Rattle.member.specs.declared.check.Check.TheVariants.{YesNo as yes_no, Strength as strength}
+use Rattle.member.specs.declared.check.StrengthCheck.{StrengthCheck}
+use Rattle.member.specs.declared.check.StrengthCheck.TheVariants.{Bending as bending, Shear as shear}
 use Rattle.member.specs.declared.kind.Kind.TheVariants.{Bending}
 use Rattle.member.specs.declared.member.Member.{Member}
 use Rattle.member.proofs.DemandLaws.{strength_high}
@@ -67,31 +70,31 @@ module _ (l : Loading) (cells : BeamCells) where
 
   -- a test that is true of none of the other cells finds none or one of these
   typed_alone : (test : ℕ → Cell → Bool)
-      → test 1 (Whole 2) ≡ false
-      → test 3 (Whole (regime_of l)) ≡ false
-      → test 8 Blank ≡ false
-      → test 9 (Whole (moment_of l)) ≡ false
-      → test 10 (Whole (shear_of l)) ≡ false
-      → ((n : ℕ) → 11 ≤ n → test n Blank ≡ false)
+      → test 1 (Some 2) ≡ false
+      → test 3 (Some (regime_of l)) ≡ false
+      → test 8 None ≡ false
+      → test 9 (Some (moment_of l)) ≡ false
+      → test 10 (Some (shear_of l)) ≡ false
+      → ((n : ℕ) → 11 ≤ n → test n None ≡ false)
       → NoneOrTyped (lowest_cell test row)
   typed_alone test one three eight nine ten blank =
       rw (
-        lowest_cons test 1 (Whole 2),
+        lowest_cons test 1 (Some 2),
         one,
         lowest_cons test 2 cells.grade,
-        lowest_cons test 3 (Whole (regime_of l)),
+        lowest_cons test 3 (Some (regime_of l)),
         three,
         lowest_cons test 4 cells.moisture,
         lowest_cons test 5 cells.office,
         lowest_cons test 6 cells.width,
         lowest_cons test 7 cells.height,
-        lowest_cons test 8 Blank,
+        lowest_cons test 8 None,
         eight,
-        lowest_cons test 9 (Whole (moment_of l)),
+        lowest_cons test 9 (Some (moment_of l)),
         nine,
-        lowest_cons test 10 (Whole (shear_of l)),
+        lowest_cons test 10 (Some (shear_of l)),
         ten,
-        lowest_of_copies test (cell_count - 10) 11 Blank blank,
+        lowest_of_copies test (cell_count - 10) 11 None blank,
       )
       (none_or_typed (test 2 cells.grade) (test 4 cells.moisture) (test 5 cells.office) (test 6 cells.width) (test 7 cells.height))
 
@@ -105,7 +108,7 @@ module _ (l : Loading) (cells : BeamCells) where
   code_cell : NoneOrTyped (lowest_cell (unknown_code Bending) row)
   code_cell = typed_alone (unknown_code Bending) refl (by (mostly_lasting l) refl) refl refl refl (λ n h. refl)
     where
-      by : (t : Bool) → mostly_lasting l ≡ t → unknown_code Bending 3 (Whole (regime_of l)) ≡ false
+      by : (t : Bool) → mostly_lasting l ≡ t → unknown_code Bending 3 (Some (regime_of l)) ≡ false
       by true e = rw e
       by false e = rw e
 
@@ -114,7 +117,7 @@ module _ (l : Loading) (cells : BeamCells) where
   range_cell given =
       typed_alone out_of_range refl (by (mostly_lasting l) refl) refl (rw (moment_in_cell_9 l given)) (rw (shear_in_cell_10 l given)) (λ n h. refl)
     where
-      by : (t : Bool) → mostly_lasting l ≡ t → out_of_range 3 (Whole (regime_of l)) ≡ false
+      by : (t : Bool) → mostly_lasting l ≡ t → out_of_range 3 (Some (regime_of l)) ≡ false
       by true e = rw e
       by false e = rw e
 

@@ -5,19 +5,19 @@ use native.Mathlib.Omega.{arith}
 use mathlib.Core.Bool.{true}
 use mathlib.Core.Path.{◌≡◌, ◌∙◌}
 use lib.Dec.{lit≤}
+use Rattle.std.specs.Prelude.{Result as Answer, Ok, Err}
 use Rattle.cells.specs.Refusal.{gives}
 use Rattle.member.specs.Acceptance.{accept}
-use Rattle.member.specs.Checks.{Check}
 use Rattle.member.specs.Demand3.{kept_from, EachFrom, Demand3At}
 use Rattle.member.specs.Verdict.{verdict}
+use Rattle.member.specs.declared.check.Check.{Check}
 use Rattle.member.specs.declared.member.Member.{Member}
 use Rattle.member.proofs.KeepsDemand3.{bending_keeps_demand_3}
 use Rattle.floorrules.specs.BeamRow.{beam_row}
 use Rattle.floorrules.specs.Demand.{floor_factor, exact_forces_of, KeepsFloorDemand}
 use Rattle.floorrules.specs.FloorBeam.{besides, floor_beam, beam_answer_result}
 use Rattle.floorrules.specs.Loads.{loading_in_range}
-use Rattle.floorrules.specs.declared.answer.BeamAnswer.{BeamAnswer}
-use Rattle.floorrules.specs.declared.answer.BeamAnswer.TheVariants.{Refused, Judged}
+use Rattle.floorrules.specs.declared.answer.BeamRefusal.{BeamRefusal}
 use Rattle.floorrules.specs.declared.answer.BeamVerdict.{BeamVerdict}
 use Rattle.floorrules.specs.declared.beam.BeamCells.{BeamCells}
 use Rattle.floorrules.specs.declared.beam.Loading.{Loading}
@@ -44,11 +44,11 @@ module _ (l : Loading) (cells : BeamCells) (m : Member) (given : accept (beam_ro
   floor_gives within = rw (within, given)
 
 -- an answer that says a verdict is that verdict
-judged_only : (answer : BeamAnswer) (v : BeamVerdict) → beam_answer_result answer ≡ gives v → answer ≡ Judged v
-judged_only (Refused refusal) v e = absurd (let z : ◌≡◌ {A = ℕ} 0 1 = cc in omega arith)
-judged_only (Judged w) v e = cc
+judged_only : (answer : Answer BeamVerdict BeamRefusal) (v : BeamVerdict) → beam_answer_result answer ≡ gives v → answer ≡ Ok v
+judged_only (Err refusal) v e = absurd (let z : ◌≡◌ {A = ℕ} 0 1 = cc in omega arith)
+judged_only (Ok w) v e = cc
 
-pub answer_keeps : (l : Loading) (cells : BeamCells) (answer : BeamAnswer) → beam_answer_result answer ≡ floor_beam l cells
+pub answer_keeps : (l : Loading) (cells : BeamCells) (answer : Answer BeamVerdict BeamRefusal) → beam_answer_result answer ≡ floor_beam l cells
     → (k : Check → ℕ) → EachFrom kept_from k → KeepsFloorDemand l cells answer k
 answer_keeps l cells answer says k big m within given = (
   besides l (verdict m),

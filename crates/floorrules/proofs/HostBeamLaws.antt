@@ -9,19 +9,17 @@ use mathlib.Core.Path.{◌≡◌, refl, ap, ◌∙◌, subst}
 use borrow.Author.Tests.{eqb-true}
 use lib.Dec.{eqb}
 use lib.ListN.{length}
+use Rattle.std.specs.Prelude.{Option, Some, None}
 use Rattle.rounding.specs.Range.{In}
 use Rattle.cells.specs.Lowest.{lowest}
 use Rattle.cells.specs.Refusal.{Result, gives, refuses, and_then, value_or}
-use Rattle.cells.specs.Row.{cell_count}
-use Rattle.cells.specs.declared.row.Cell.{Cell}
+use Rattle.cells.specs.Row.{cell_count, Cell}
 use Rattle.cells.proofs.ResultLaws.{then_given}
-use Rattle.member.specs.Checks.{Check}
+use Rattle.member.specs.declared.check.Check.{Check}
 use Rattle.member.specs.Demand3.{kept_from, EachFrom}
 use Rattle.member.specs.Verdict.{verdict}
 use Rattle.worksheet.specs.OwnCell.{own_result}
 use Rattle.worksheet.specs.Reading.{read_cell, is_unreadable, lowest_unreadable, read_cells}
-use Rattle.worksheet.specs.declared.own_cell.OwnNumber.{OwnNumber}
-use Rattle.worksheet.specs.declared.own_cell.OwnNumber.TheVariants.{Given, Missing}
 use Rattle.worksheet.proofs.ReadingLaws.{as_read}
 use Rattle.worksheet.proofs.RefusalNumbers.{Numbered}
 use Rattle.floorrules.specs.FloorBeam.{accept_loading, besides, floor_beam}
@@ -49,7 +47,7 @@ accepted_within l l' e = by (loading_in_range l) refl
         let refused : accept_loading l ≡ refuses 8 0 = rw outside in
         absurd (let z : ◌≡◌ {A = ℕ} 0 1 = cc in omega arith)
 
-loading_within : (a b c : OwnNumber) (l : Loading) → loading_of a b c ≡ gives l → loading_in_range l ≡ true
+loading_within : (a b c : Option ℕ) (l : Loading) → loading_of a b c ≡ gives l → loading_in_range l ≡ true
 loading_within a b c l e =
     let first = then_given (own_result 8 a) _ l e in
     let second = then_given (own_result 8 b) _ l first.2 in
@@ -126,11 +124,11 @@ test_only : {A : Type 0} (number cell : ℕ) (rest : Result A) → BeamRefused n
 test_only number cell rest here later true = later
 test_only number cell rest here later false = here
 
-own_only : (own : OwnNumber) → OnlyRefused (own_result 8 own)
-own_only (Given number) = tt
-own_only Missing = inl (refl, inr (inr refl))
+own_only : (own : Option ℕ) → OnlyRefused (own_result 8 own)
+own_only (Some number) = tt
+own_only None = inl (refl, inr (inr refl))
 
-loading_only : (a b c : OwnNumber) → OnlyRefused (loading_of a b c)
+loading_only : (a b c : Option ℕ) → OnlyRefused (loading_of a b c)
 loading_only a b c =
     then_only (own_result 8 a) _ (own_only a)
     (λ lasting. then_only (own_result 8 b) _ (own_only b)

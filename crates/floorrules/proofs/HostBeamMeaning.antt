@@ -11,6 +11,7 @@ use lib.Dec.{eqb, lit<}
 use lib.Ieee.{of_bits}
 use lib.Ieee.Exact.{HasValue}
 use lib.ListN.{length, get_or}
+use Rattle.std.specs.Prelude.{Option, Some, None}
 use Rattle.rounding.specs.Fraction.{◌≼◌}
 use Rattle.cells.specs.HostBytes.{float_at}
 use Rattle.cells.specs.Lowest.{lowest}
@@ -24,8 +25,6 @@ use Rattle.member.proofs.VerdictRange.{accepted_verdict_range}
 use Rattle.worksheet.specs.HostRow.{host_cell_at}
 use Rattle.worksheet.specs.Number.{read_number, read_fraction}
 use Rattle.worksheet.specs.Reading.{read_cell}
-use Rattle.worksheet.specs.declared.own_cell.OwnNumber.{OwnNumber}
-use Rattle.worksheet.specs.declared.own_cell.OwnNumber.TheVariants.{Given, Missing}
 use Rattle.worksheet.proofs.EntryMeaning.{WasRefused, from_1000, untouched, verdict_few, passed, not_passed}
 use Rattle.worksheet.proofs.FloatsMeaning.{number_held}
 use Rattle.worksheet.proofs.OwnCellMeaning.{HoldsNone, own_missing}
@@ -182,12 +181,12 @@ pub another_beam_length : (beam : List ℕ) (room : ℕ) → (length beam ≡ 72
 another_beam_length beam room other = rw (ne_eqb _ _ other)
 
 -- a load or span that is missing
-pub one_missing : (a b c : OwnNumber) → (a ≡ Missing) ⊎ ((b ≡ Missing) ⊎ (c ≡ Missing)) → loading_of a b c ≡ refuses 8 0
+pub one_missing : (a b c : Option ℕ) → (a ≡ None) ⊎ ((b ≡ None) ⊎ (c ≡ None)) → loading_of a b c ≡ refuses 8 0
 one_missing a b c (inl e) = rw e
-one_missing Missing b c (inr none) = refl
-one_missing (Given lasting) b c (inr (inl e)) = rw e
-one_missing (Given lasting) Missing c (inr (inr e)) = refl
-one_missing (Given lasting) (Given remaining) c (inr (inr e)) = rw e
+one_missing None b c (inr none) = refl
+one_missing (Some lasting) b c (inr (inl e)) = rw e
+one_missing (Some lasting) None c (inr (inr e)) = refl
+one_missing (Some lasting) (Some remaining) c (inr (inr e)) = rw e
 
 -- in a beam of 72 bytes
 module _ (beam : List ℕ) (room : ℕ) (whole : length beam ≡ 72) where
@@ -201,7 +200,7 @@ module _ (beam : List ℕ) (room : ℕ) (whole : length beam ≡ 72) where
   missing_load none = loads_before_cells (one_missing (load_at beam 0) (load_at beam 1) (load_at beam 2) (by none))
     where
       by : HoldsNone (read_cell (beam_cell_at beam 0)) ⊎ (HoldsNone (read_cell (beam_cell_at beam 1)) ⊎ HoldsNone (read_cell (beam_cell_at beam 2)))
-          → (load_at beam 0 ≡ Missing) ⊎ ((load_at beam 1 ≡ Missing) ⊎ (load_at beam 2 ≡ Missing))
+          → (load_at beam 0 ≡ None) ⊎ ((load_at beam 1 ≡ None) ⊎ (load_at beam 2 ≡ None))
       by (inl h) = inl (own_missing _ h)
       by (inr (inl h)) = inr (inl (own_missing _ h))
       by (inr (inr h)) = inr (inr (own_missing _ h))

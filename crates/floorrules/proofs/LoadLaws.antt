@@ -10,7 +10,7 @@ use Rattle.rounding.specs.Fraction.{RoundsUpTo}
 use Rattle.rounding.specs.Range.{In}
 use Rattle.rounding.proofs.Ranges.{in_mul}
 use Rattle.rounding.proofs.RoundingLaws.{rounding_up}
-use Rattle.member.specs.Cells.{within, in_range}
+use Rattle.member.specs.Cells.{in_range}
 use Rattle.member.proofs.AcceptanceLaws.{both_true}
 use Rattle.floorrules.specs.Loads.{total_load, loading_in_range, LoadingRanges, moment_of, exact_moment_of, shear_of, exact_shear_of}
 use Rattle.floorrules.specs.WorkedBeams.{loads}

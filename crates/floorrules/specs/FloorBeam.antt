@@ -1,13 +1,11 @@
 -- The floor-beam check: its refusals, and the verdict with what was made of the loads.
 -- Assumes nothing.
-use Rattle.std.specs.Prelude.{ℕ, ◌+◌, ◌*◌, cond}
+use Rattle.std.specs.Prelude.{ℕ, ◌+◌, ◌*◌, cond, Result as Answer, Ok, Err}
 use Rattle.cells.specs.Refusal.{Result, gives, refuses, and_then, refusal_number, refusal_cell}
 use Rattle.member.specs.Verdict.{check_row}
 use Rattle.member.specs.declared.verdict.Verdict.{Verdict}
 use Rattle.floorrules.specs.BeamRow.{beam_row}
 use Rattle.floorrules.specs.Loads.{loading_in_range, regime_of, moment_of, shear_of}
-use Rattle.floorrules.specs.declared.answer.BeamAnswer.{BeamAnswer}
-use Rattle.floorrules.specs.declared.answer.BeamAnswer.TheVariants.{Refused, Judged}
 use Rattle.floorrules.specs.declared.answer.BeamRefusal.{BeamRefusal}
 use Rattle.floorrules.specs.declared.answer.BeamRefusal.TheVariants.{LoadOrSpan, Row as OfRow}
 use Rattle.floorrules.specs.declared.answer.BeamVerdict.{BeamVerdict}
@@ -41,7 +39,7 @@ beam_refusal_cell (OfRow refusal) = refusal_cell refusal
 abbrev pub beam_refusal_code : BeamRefusal → ℕ
 beam_refusal_code refusal = 1000 * beam_refusal_number refusal + beam_refusal_cell refusal
 
--- what the answer says as a result: a verdict, or a refusal by number and cell
-abbrev pub beam_answer_result : BeamAnswer → Result BeamVerdict
-beam_answer_result (Refused refusal) = refuses (beam_refusal_number refusal) (beam_refusal_cell refusal)
-beam_answer_result (Judged v) = gives v
+-- what an answer says as a result: its value, a verdict mostly, or a refusal by number and cell
+abbrev pub beam_answer_result : {A : Type 0} → Answer A BeamRefusal → Result A
+beam_answer_result (Ok value) = gives value
+beam_answer_result (Err refusal) = refuses (beam_refusal_number refusal) (beam_refusal_cell refusal)

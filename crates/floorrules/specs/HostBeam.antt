@@ -1,12 +1,11 @@
 -- The floor beam as a host hands it over, what its entry returns, and what it leaves in the lent bytes.
 -- Assumes nothing.
-use Rattle.std.specs.Prelude.{ℕ, ◌*◌, cond, List, [], ◌∷◌, ◌≡◌, eqb, length, get_or}
+use Rattle.std.specs.Prelude.{ℕ, ◌*◌, cond, List, [], ◌∷◌, ◌≡◌, eqb, length, get_or, None, Option}
 use Rattle.cells.specs.Refusal.{Result, gives, refuses, and_then, leaves, told}
-use Rattle.cells.specs.declared.row.Cell.{Cell}
-use Rattle.cells.specs.declared.row.Cell.TheVariants.{Blank}
+use Rattle.cells.specs.Row.{Cell}
 use Rattle.member.specs.Acceptance.{accept}
-use Rattle.member.specs.Checks.{Check}
 use Rattle.member.specs.Demand3.{Demand3At}
+use Rattle.member.specs.declared.check.Check.{Check}
 use Rattle.member.specs.declared.member.Member.{Member}
 use Rattle.worksheet.specs.Entries.{pass_or_fail}
 use Rattle.worksheet.specs.HostAnswer.{floats_bytes, floats_result, whole_floats}
@@ -15,7 +14,6 @@ use Rattle.worksheet.specs.OwnCell.{own_number, own_result}
 use Rattle.worksheet.specs.Reading.{read_cell, read_cells}
 use Rattle.worksheet.specs.declared.host_cell.HostCell.{HostCell}
 use Rattle.worksheet.specs.declared.host_cell.HostCell.TheVariants.{Blank as Empty}
-use Rattle.worksheet.specs.declared.own_cell.OwnNumber.{OwnNumber}
 use Rattle.floorrules.specs.BeamRow.{beam_row}
 use Rattle.floorrules.specs.Demand.{exact_forces_of}
 use Rattle.floorrules.specs.FloorBeam.{accept_loading, floor_beam}
@@ -34,11 +32,11 @@ abbrev pub beam_cell_at : List ℕ → ℕ → HostCell
 beam_cell_at beam place = host_cell_at beam (host_cell_bytes * place)
 
 -- request 1, host: the number in a place of the beam, if it holds one
-abbrev pub load_at : List ℕ → ℕ → OwnNumber
+abbrev pub load_at : List ℕ → ℕ → Option ℕ
 load_at beam place = own_number (read_cell (beam_cell_at beam place))
 
 -- request 1, host: two loads and a span; refusal 8, cell 0, where one is missing (blank or unreadable) or outside its range
-abbrev pub loading_of : OwnNumber → OwnNumber → OwnNumber → Result Loading
+abbrev pub loading_of : Option ℕ → Option ℕ → Option ℕ → Result Loading
 loading_of first second third =
     and_then (own_result 8 first)
     (λ (lasting : ℕ). and_then (own_result 8 second)
@@ -58,11 +56,11 @@ host_cells_of_row beam =
 abbrev pub beam_cells_of : List Cell → BeamCells
 beam_cells_of cells =
     record {
-      grade = get_or cells 1 Blank;
-      moisture = get_or cells 3 Blank;
-      office = get_or cells 4 Blank;
-      width = get_or cells 5 Blank;
-      height = get_or cells 6 Blank;
+      grade = get_or cells 1 None;
+      moisture = get_or cells 3 None;
+      office = get_or cells 4 None;
+      width = get_or cells 5 None;
+      height = get_or cells 6 None;
     }
 
 -- request 1, host: the five cells, or refusal 1 of the lowest that is unreadable

@@ -1,13 +1,12 @@
 -- Two floor beams worked by hand in docs/SP64.md, one on each side of the 80 percent, and the figures on the way to their verdicts.
 -- Assumes nothing.
-use Rattle.std.specs.Prelude.{ℕ, List, [], ◌∷◌}
-use Rattle.cells.specs.declared.row.Cell.{Cell}
-use Rattle.cells.specs.declared.row.Cell.TheVariants.{Whole}
+use Rattle.std.specs.Prelude.{ℕ, List, [], ◌∷◌, Some}
+use Rattle.cells.specs.Row.{Cell}
 use Rattle.rounding.specs.Fraction.{fraction, whole, ◌⊕◌}
 use Rattle.sp64.specs.Capacity.{shear_capacity}
 use Rattle.sp64.specs.declared.tables.Stress.TheVariants.{Bending, Shear}
-use Rattle.member.specs.Checks.{bending, shear}
 use Rattle.member.specs.Member.{MRof}
+use Rattle.member.specs.declared.check.StrengthCheck.TheVariants.{Bending as bending, Shear as shear}
 use Rattle.member.specs.declared.member.Member.{Member}
 use Rattle.worked.specs.Cases.{Case, figure, exact, pass, fail}
 use Rattle.worked.specs.Values.{strength_in, exact_strength_in, utilisation_in}
@@ -23,7 +22,7 @@ loads lasting remaining span = record { lasting = lasting; remaining = remaining
 -- the five cells of a beam
 abbrev pub beam_of : ℕ → ℕ → ℕ → ℕ → ℕ → BeamCells
 beam_of grade moisture office width height =
-    record { grade = Whole grade; moisture = Whole moisture; office = Whole office; width = Whole width; height = Whole height }
+    record { grade = Some grade; moisture = Some moisture; office = Some office; width = Some width; height = Some height }
 
 -- a living room: 900 of 1700 N/m last, 53 percent
 abbrev pub living_room : Loading

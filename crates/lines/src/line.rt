@@ -2,7 +2,7 @@
 use crate::text::Line;
 
 // A row's line, and where the next row starts.
-#[derive(Clone, Copy)]
+#[derive(Clone, Drop)]
 pub struct Step {
     pub line: Line,
     pub next: usize,

@@ -8,14 +8,11 @@ use mathlib.Core.List.{List}
 use borrow.Author.Tests.{leb-true, le-leb, eqb-true, ne_eqb}
 use lib.Dec.{leb, eqb, lit<, lit≤}
 use lib.ListN.{length, get_or, get_or-map}
+use Rattle.std.specs.Prelude.{None, Some, Option}
 use Rattle.rounding.specs.Range.{In}
 use Rattle.cells.specs.Refusal.{Result, gives, refuses}
-use Rattle.cells.specs.Row.{cell_count, cells_of}
-use Rattle.cells.specs.declared.row.Cell.{Cell}
-use Rattle.cells.specs.declared.row.Cell.TheVariants.{Blank, Whole}
-use Rattle.cells.specs.declared.row.Row.{Row}
+use Rattle.cells.specs.Row.{cell_count, Cell}
 use Rattle.cells.proofs.LowestLaws.{lowest_none, lowest_of_passing}
-use Rattle.cells.proofs.RowLaws.{cell_at}
 use Rattle.sp64.specs.Joint.{JointRanges}
 use Rattle.sp64.specs.Strength.{material_of}
 use Rattle.sp64.specs.Tables.{slenderness_limit}
@@ -29,8 +26,6 @@ use Rattle.member.specs.Member.{values_of, value_at, member_of, joint_of}
 use Rattle.member.specs.Ranges.{RangesOf}
 use Rattle.member.specs.declared.kind.Kind.{Kind}
 use Rattle.member.specs.declared.kind.Kind.TheVariants.{Tension, Bending, Compression, CompressionBending, TensionBending}
-use Rattle.member.specs.declared.kind.KindCode.{KindCode}
-use Rattle.member.specs.declared.kind.KindCode.TheVariants.{Known, Unknown}
 use Rattle.member.specs.declared.member.Member.{Member}
 
 -- a row in which no cell breaks a rule
@@ -64,22 +59,22 @@ same_as_true false e = e
 
 module _ (kind : Kind) (begun : Bool) (cells : List Cell) (whole : length cells ≡ cell_count) (ok : Unbroken kind begun cells) where
   -- no cell breaks a rule
-  unbroken : (test : ℕ → Cell → Bool) → lowest_cell test cells ≡ 0 → (k : ℕ) → k < cell_count → test (1 + k) (get_or cells k Blank) ≡ false
-  unbroken test e k h = lowest_none test 1 cells (lit< tt) e k Blank (omega arith)
+  unbroken : (test : ℕ → Cell → Bool) → lowest_cell test cells ≡ 0 → (k : ℕ) → k < cell_count → test (1 + k) (get_or cells k None) ≡ false
+  unbroken test e k h = lowest_none test 1 cells (lit< tt) e k None (omega arith)
 
   -- a cell that the kind fills is filled
-  filled_at : (k : ℕ) → k < cell_count → wanted kind begun (1 + k) ≡ true → filled (get_or cells k Blank) ≡ true
+  filled_at : (k : ℕ) → k < cell_count → wanted kind begun (1 + k) ≡ true → filled (get_or cells k None) ≡ true
   filled_at k h w = filled_as _ _ w (unbroken (misfilled kind begun) ok.fill k h)
 
-  value_at_lem : (k : ℕ) → get_or (values_of cells) k 0 ≡ value_of (get_or cells k Blank)
-  value_at_lem k = get_or-map value_of cells k Blank
+  value_at_lem : (k : ℕ) → get_or (values_of cells) k 0 ≡ value_of (get_or cells k None)
+  value_at_lem k = get_or-map value_of cells k None
 
   -- its value is in its range
   pub cell_in : (k : ℕ) → k < cell_count → wanted kind begun (1 + k) ≡ true → In (get_or ranges k (0, 0)).0 (get_or ranges k (0, 0)).1 (get_or (values_of cells) k 0)
   cell_in k h w =
-      let here : in_range (1 + k) (value_of (get_or cells k Blank)) ≡ true = passes_test _ _ (filled_at k h w) (unbroken out_of_range ok.range k h) in
+      let here : in_range (1 + k) (value_of (get_or cells k None)) ≡ true = passes_test _ _ (filled_at k h w) (unbroken out_of_range ok.range k h) in
       let at : k ≡ 1 + k - 1 = omega arith in
-      let inside = ap (λ (i : ℕ). within (get_or ranges i (0, 0)).0 (get_or ranges i (0, 0)).1 (value_of (get_or cells k Blank))) at ∙ here in
+      let inside = ap (λ (i : ℕ). within (get_or ranges i (0, 0)).0 (get_or ranges i (0, 0)).1 (value_of (get_or cells k None))) at ∙ here in
       let b = both_true _ _ inside in
       rw (value_at_lem k) (record { low = leb-true _ _ b.0; high = leb-true _ _ b.1 })
 
@@ -231,26 +226,22 @@ accepted_member kind cells m =
     given : gives here ≡ gives m → m ≡ here
     given e = cc
 
--- the value in a place is that of the cell in the slot there
-pub slot_value : (row : Row) (i : ℕ) → get_or (values_of (cells_of row)) i 0 ≡ value_of (get_or row.cells i (record { cell = Blank })).cell
-slot_value row i = get_or-map value_of (cells_of row) i Blank ∙ ap value_of (cell_at row i)
-
 -- the material of an accepted row follows from cells 2 to 5
 pub accepted_material : (cells : List Cell) (m : Member) → accept cells ≡ gives m
     → m.material ≡ material_of (value_at (values_of cells) 2) (value_at (values_of cells) 3) (value_at (values_of cells) 4) (value_at (values_of cells) 5)
-accepted_material cells m = by (get_or cells 0 Blank)
+accepted_material cells m = by (get_or cells 0 None)
   where
     -- it is the same in every kind
     here : Material
     here = (member_of Tension false (values_of cells)).material
 
-    by_code : (code : KindCode) → accept_code code cells ≡ gives m → m.material ≡ here
-    by_code Unknown e = absurd (let z : ◌≡◌ {A = ℕ} 0 1 = cc in omega arith)
-    by_code (Known kind) e = ap (λ (m : Member). m.material) (accepted_member kind cells m e)
+    by_code : (code : Option Kind) → accept_code code cells ≡ gives m → m.material ≡ here
+    by_code None e = absurd (let z : ◌≡◌ {A = ℕ} 0 1 = cc in omega arith)
+    by_code (Some kind) e = ap (λ (m : Member). m.material) (accepted_member kind cells m e)
 
     by : (first : Cell) → accept_first first cells ≡ gives m → m.material ≡ here
-    by Blank e = absurd (let z : ◌≡◌ {A = ℕ} 0 1 = cc in omega arith)
-    by (Whole code) e = by_code (kind_of code) e
+    by None e = absurd (let z : ◌≡◌ {A = ℕ} 0 1 = cc in omega arith)
+    by (Some code) e = by_code (kind_of code) e
 
 -- what a result of acceptance promises: a member that keeps its ranges
 abbrev RangesKept : Result Member → Type 0
@@ -270,14 +261,14 @@ kept_kind kind cells whole =
     kept_unless 2 _ _
     (λ f. kept_unless 3 _ _ (λ c. kept_unless 4 _ _ (λ r. accepted_ranges kind cells whole refl (record { fill = f; code = c; range = r }))))
 
-kept_code : (code : KindCode) (cells : List Cell) → length cells ≡ cell_count → RangesKept (accept_code code cells)
-kept_code Unknown cells whole = tt
-kept_code (Known kind) cells whole = kept_kind kind cells whole
+kept_code : (code : Option Kind) (cells : List Cell) → length cells ≡ cell_count → RangesKept (accept_code code cells)
+kept_code None cells whole = tt
+kept_code (Some kind) cells whole = kept_kind kind cells whole
 
 kept_first : (first : Cell) (cells : List Cell) → length cells ≡ cell_count → RangesKept (accept_first first cells)
-kept_first Blank cells whole = tt
-kept_first (Whole code) cells whole = kept_code (kind_of code) cells whole
+kept_first None cells whole = tt
+kept_first (Some code) cells whole = kept_code (kind_of code) cells whole
 
 -- the member that acceptance gives keeps the ranges of its kind
 pub accept_ranges : (cells : List Cell) (m : Member) → length cells ≡ cell_count → accept cells ≡ gives m → RangesOf m.kind m
-accept_ranges cells m whole e = rw e at (kept_first (get_or cells 0 Blank) cells whole)
+accept_ranges cells m whole e = rw e at (kept_first (get_or cells 0 None) cells whole)

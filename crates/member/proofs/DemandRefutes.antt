@@ -7,11 +7,12 @@ use mathlib.Core.Logic.{inl, inr}
 use mathlib.Core.Bool.{Bool, true, false}
 use mathlib.Core.List.{List}
 use lib.Dec.{lit<, lit≤}
+use Rattle.std.specs.Prelude.{Ok, Err}
 use Rattle.rounding.specs.Fraction.{whole, scaled}
 use Rattle.cells.specs.Greatest.{greatest}
 use Rattle.cells.specs.Refusal.{gives}
 use Rattle.cells.specs.declared.refusal.Refusal.{Refusal}
-use Rattle.cells.specs.declared.row.Cell.{Cell}
+use Rattle.cells.specs.Row.{Cell}
 use Rattle.sp64.specs.Joint.{ExactJointLength}
 use Rattle.member.specs.Acceptance.{accept}
 use Rattle.member.specs.Checks.{Check, yes_no, strength, Has, layout, slenderness, joint_length, bending, compression_bending}
@@ -21,7 +22,6 @@ use Rattle.member.specs.Unrounded.{forces_of, Holds}
 use Rattle.member.specs.Verdict.{judge_by, verdict}
 use Rattle.member.specs.WorkedRows.{row_a}
 use Rattle.member.specs.declared.member.Member.{Member}
-use Rattle.member.specs.declared.verdict.Answer.TheVariants.{Refused, Judged}
 use Rattle.member.specs.declared.verdict.Verdict.{Verdict}
 use Rattle.member.proofs.AcceptedRows.{member_a, member_e, member_f, edge_member, row_a_accepted}
 use Rattle.member.proofs.DemandLaws.{strength_high}
@@ -31,12 +31,12 @@ abbrev pub says : Bool → ℕ → ℕ → ℕ → Verdict
 says passes check utilisation count = record { passes = passes; check = check; utilisation = utilisation; count = count }
 
 -- A refusal as the answer to a row that the rules accept, whatever the refusal and the factors; so of row A.
-pub refused_breaks : (cells : List Cell) (m : Member) → accept cells ≡ gives m → (refusal : Refusal) (k : Check → ℕ) → KeepsDemand3 cells (Refused refusal) k → ⊥
+pub refused_breaks : (cells : List Cell) (m : Member) → accept cells ≡ gives m → (refusal : Refusal) (k : Check → ℕ) → KeepsDemand3 cells (Err refusal) k → ⊥
 refused_breaks cells m given refusal k keeps =
-    let answer : Refused refusal ≡ Judged (keeps m given).0 = (keeps m given).1 in
+    let answer : Err refusal ≡ Ok (keeps m given).0 = (keeps m given).1 in
     absurd (let z : ◌≡◌ {A = ℕ} 0 1 = cc in omega arith)
 
-pub row_a_refused : (refusal : Refusal) (k : Check → ℕ) → KeepsDemand3 row_a (Refused refusal) k → ⊥
+pub row_a_refused : (refusal : Refusal) (k : Check → ℕ) → KeepsDemand3 row_a (Err refusal) k → ⊥
 row_a_refused = refused_breaks row_a member_a row_a_accepted
 
 -- Row A failed on check 7.

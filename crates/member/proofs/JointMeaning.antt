@@ -9,8 +9,7 @@ use mathlib.Core.List.{List}
 use lib.Dec.{lit<}
 use lib.ListN.{length}
 use Rattle.cells.specs.Refusal.{gives}
-use Rattle.cells.specs.Row.{cell_count}
-use Rattle.cells.specs.declared.row.Cell.{Cell}
+use Rattle.cells.specs.Row.{cell_count, Cell}
 use Rattle.sp64.proofs.Denominators.{scaled_real}
 use Rattle.sp64.proofs.JointMeaning.{TooLong, joint_length_fails_iff}
 use Rattle.member.specs.Acceptance.{accept}

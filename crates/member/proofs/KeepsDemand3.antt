@@ -2,24 +2,24 @@
 -- Assumes nothing.
 use Prim.Native.Nat.{ℕ}
 use native.Mathlib.Omega.{arith}
-use mathlib.Core.Path.{◌≡◌, sym, ap, ◌∙◌, subst}
+use mathlib.Core.Path.{◌≡◌, ap, ◌∙◌}
 use mathlib.Core.List.{List}
 use lib.Dec.{lit≤}
 use lib.ListN.{length}
+use Rattle.std.specs.Prelude.{Result as Answer}
 use Rattle.rounding.specs.Fraction.{RoundsUpTo}
-use Rattle.cells.specs.Refusal.{Result, gives, refuses, value_or}
-use Rattle.cells.specs.Row.{cell_count}
-use Rattle.cells.specs.declared.row.Cell.{Cell}
+use Rattle.cells.specs.Refusal.{gives, by_number}
+use Rattle.cells.specs.declared.refusal.Refusal.{Refusal}
+use Rattle.cells.specs.Row.{cell_count, Cell}
 use Rattle.member.specs.Acceptance.{accept}
 use Rattle.member.specs.Checks.{Check}
 use Rattle.member.specs.Demand3.{demand_factor, kept_from, EachFrom, Demand3, Demand3At, KeepsDemand3}
 use Rattle.member.specs.Unrounded.{Forces, forces_of}
-use Rattle.member.specs.Verdict.{verdict, judged, check_row, answer_result}
+use Rattle.member.specs.Verdict.{verdict, judged, check_row}
 use Rattle.member.specs.declared.kind.Kind.TheVariants.{Bending}
 use Rattle.member.specs.declared.member.Member.{Member}
-use Rattle.member.specs.declared.verdict.Answer.{Answer}
-use Rattle.member.specs.declared.verdict.Answer.TheVariants.{Refused, Judged}
 use Rattle.member.specs.declared.verdict.Verdict.{Verdict}
+use Rattle.cells.proofs.ResultLaws.{answer_given}
 use Rattle.member.proofs.AcceptanceLaws.{accept_ranges}
 use Rattle.member.proofs.DemandLaws.{demand_from}
 use Rattle.member.proofs.RowChecks.{checks_sound, bending_checks_sound}
@@ -37,16 +37,7 @@ module _ (cells : List Cell) (m : Member) (whole : length cells ≡ cell_count) 
   pub bending_keeps_demand_3 : m.kind ≡ Bending → (f : Forces) → RoundsUpTo m.moment f.M → RoundsUpTo m.shear f.Q → (k : Check → ℕ) → EachFrom kept_from k → Demand3At m f (verdict m) k
   bending_keeps_demand_3 e f up_m upQ k big = demand_from m f (bending_checks_sound m e (accept_ranges cells m whole given) f up_m upQ) k (λ c. omega (arith, big c))
 
--- an answer that says a verdict is that verdict
-abbrev NotRefused : {A : Type 0} → Result A → Type 0
-NotRefused (gives value) = Unit
-NotRefused (refuses number cell) = ⊥
-
-judged_only : (answer : Answer) (v : Verdict) → answer_result answer ≡ gives v → answer ≡ Judged v
-judged_only (Refused refusal) v e = absurd (subst (λ (r : Result Verdict). NotRefused r) (sym e) tt)
-judged_only (Judged w) v e = ap (λ (r : Result Verdict). Judged (value_or w r)) e
-
 -- an answer that is the row check's keeps demand 3
-pub answer_keeps : (cells : List Cell) (answer : Answer) → length cells ≡ cell_count → answer_result answer ≡ check_row cells → (k : Check → ℕ) → EachFrom kept_from k → KeepsDemand3 cells answer k
+pub answer_keeps : (cells : List Cell) (answer : Answer Verdict Refusal) → length cells ≡ cell_count → by_number answer ≡ check_row cells → (k : Check → ℕ) → EachFrom kept_from k → KeepsDemand3 cells answer k
 answer_keeps cells answer whole says k big m given =
-    (verdict m, judged_only answer (verdict m) (says ∙ ap judged given), keeps_demand_3 cells m whole given k big)
+    (verdict m, answer_given answer (verdict m) (says ∙ ap judged given), keeps_demand_3 cells m whole given k big)

@@ -8,7 +8,7 @@ use mathlib.Core.Bool.{Bool, true, false}
 use mathlib.Core.List.{List}
 use borrow.Author.Tests.{leb-true, le-leb}
 use Rattle.cells.specs.Refusal.{gives, value_or}
-use Rattle.cells.specs.declared.row.Cell.{Cell}
+use Rattle.cells.specs.Row.{Cell}
 use Rattle.rounding.proofs.Soundness.{utilisation_more}
 use Rattle.sp64.proofs.ForceLaws.{tension_bending_more, compression_bending_more, length_kept}
 use Rattle.member.specs.Acceptance.{accept}

@@ -9,8 +9,7 @@ use lib.Dec.{lit<}
 use lib.ListN.{length}
 use Rattle.rounding.specs.Fraction.{Fraction, whole, ◌⊘◌, ◌⊕◌, ◌⊖◌, ◌≼◌, ◌≺◌}
 use Rattle.cells.specs.Refusal.{gives}
-use Rattle.cells.specs.Row.{cell_count}
-use Rattle.cells.specs.declared.row.Cell.{Cell}
+use Rattle.cells.specs.Row.{cell_count, Cell}
 use Rattle.sp64.specs.Buckling.{stocky, exact_slender_phi, exact_buckling_phi, exact_buckling_capacity, exact_euler_capacity}
 use Rattle.sp64.specs.Capacity.{exact_net_tension_capacity, exact_side_piece_capacity, exact_shear_capacity}
 use Rattle.sp64.specs.Combined.{exact_axial_share, exact_second_order_moment}

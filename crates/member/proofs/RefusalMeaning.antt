@@ -8,19 +8,16 @@ use mathlib.Core.Bool.{Bool, true, false, true≢false}
 use mathlib.Core.List.{List}
 use lib.ListN.{length, get_or}
 use borrow.Author.Tests.{ne_eqb}
+use Rattle.std.specs.Prelude.{None, Some, Option}
 use Rattle.cells.specs.Lowest.{lowest}
 use Rattle.cells.specs.Refusal.{Result, gives, refuses}
-use Rattle.cells.specs.Row.{cell_count}
-use Rattle.cells.specs.declared.row.Cell.{Cell}
-use Rattle.cells.specs.declared.row.Cell.TheVariants.{Blank, Whole}
+use Rattle.cells.specs.Row.{cell_count, Cell}
 use Rattle.cells.proofs.LowestLaws.{Passes, FailsAt, lowest_meaning}
 use Rattle.member.specs.Acceptance.{begins, misfilled, unknown_code, out_of_range, lowest_cell, is_begun, accept_kind, accept_code, accept_first, accept}
 use Rattle.member.specs.Cells.{filled, optional, ranges}
 use Rattle.member.specs.Kind.{kind_of}
 use Rattle.member.specs.WorkedRows.{row_half_joint}
 use Rattle.member.specs.declared.kind.Kind.{Kind}
-use Rattle.member.specs.declared.kind.KindCode.{KindCode}
-use Rattle.member.specs.declared.kind.KindCode.TheVariants.{Known, Unknown}
 use Rattle.member.specs.declared.member.Member.{Member}
 use Rattle.member.proofs.AcceptanceLaws.{both_true, fill_refused, code_refused, range_refused, none_refused}
 
@@ -28,15 +25,15 @@ use Rattle.member.proofs.AcceptanceLaws.{both_true, fill_refused, code_refused, 
 module _ (cells : List Cell) (test : ℕ → Cell → Bool) where
   -- it is true of no cell
   abbrev pub Kept : Type 0
-  Kept = (k : ℕ) → k < length cells → test (1 + k) (get_or cells k Blank) ≡ false
+  Kept = (k : ℕ) → k < length cells → test (1 + k) (get_or cells k None) ≡ false
 
   -- it is true of the cell at place k, number 1 + k, and of no lower one
   pub record Named (cell : ℕ) : Type 0 where
     pub place : ℕ
     pub is : cell ≡ 1 + place
     pub inside : place < length cells
-    pub broken : test (1 + place) (get_or cells place Blank) ≡ true
-    pub lower : (j : ℕ) → j < place → test (1 + j) (get_or cells j Blank) ≡ false
+    pub broken : test (1 + place) (get_or cells place None) ≡ true
+    pub lower : (j : ℕ) → j < place → test (1 + j) (get_or cells j None) ≡ false
 
   -- what a search finds
   abbrev Search : Type 0
@@ -46,13 +43,13 @@ module _ (cells : List Cell) (test : ℕ → Cell → Bool) where
   found = by (lowest_meaning test 1 cells)
     where
       by : Passes test 1 cells ⊎ ((k : ℕ) × FailsAt test 1 cells k) → Search
-      by (inl r) = inl (r.none, λ k h. r.all k Blank h)
+      by (inl r) = inl (r.none, λ k h. r.all k None h)
       by (inr (k, r)) =
           inr (
             1 + k,
             sym r.found,
             λ e. absurd (omega arith),
-            record { place = k; is = refl; inside = r.inside; broken = r.failing Blank; lower = λ j h. r.below j Blank h },
+            record { place = k; is = refl; inside = r.inside; broken = r.failing None; lower = λ j h. r.below j None h },
           )
 
 -- There is a range for each cell.
@@ -68,7 +65,7 @@ half_joint_refused = refl
 pub record Begins (kind : Kind) (cells : List Cell) : Type 0 where
   pub place : ℕ
   pub inside : place < length cells
-  pub is_filled : filled (get_or cells place Blank) ≡ true
+  pub is_filled : filled (get_or cells place None) ≡ true
   pub is_optional : optional kind (1 + place) ≡ true
 
 module _ (kind : Kind) (cells : List Cell) where
@@ -120,22 +117,22 @@ module _ (kind : Kind) (cells : List Cell) where
       by_fill (inr (cell, e, some, named)) = subst Meaning (sym (fill_refused kind cells refl e some)) (inl (refl, named))
 
 -- what acceptance says of a row, by its cell 1: blank, an unknown code, or a kind
-abbrev pub OfCode : KindCode → List Cell → Result Member → Type 0
-OfCode Unknown cells result = result ≡ refuses 3 1
-OfCode (Known kind) cells result = Meaning kind cells result
+abbrev pub OfCode : Option Kind → List Cell → Result Member → Type 0
+OfCode None cells result = result ≡ refuses 3 1
+OfCode (Some kind) cells result = Meaning kind cells result
 
 abbrev pub OfFirst : Cell → List Cell → Result Member → Type 0
-OfFirst Blank cells result = result ≡ refuses 2 1
-OfFirst (Whole code) cells result = OfCode (kind_of code) cells result
+OfFirst None cells result = result ≡ refuses 2 1
+OfFirst (Some code) cells result = OfCode (kind_of code) cells result
 
 -- a row is refused for cell 1 where that is blank or unknown; otherwise by the first rule that a cell breaks, and accepted where none does
-pub accept_meaning : (cells : List Cell) → OfFirst (get_or cells 0 Blank) cells (accept cells)
-accept_meaning cells = by (get_or cells 0 Blank)
+pub accept_meaning : (cells : List Cell) → OfFirst (get_or cells 0 None) cells (accept cells)
+accept_meaning cells = by (get_or cells 0 None)
   where
-    known : (code : KindCode) → OfCode code cells (accept_code code cells)
-    known Unknown = refl
-    known (Known kind) = kind_meaning kind cells
+    known : (code : Option Kind) → OfCode code cells (accept_code code cells)
+    known None = refl
+    known (Some kind) = kind_meaning kind cells
 
     by : (first : Cell) → OfFirst first cells (accept_first first cells)
-    by Blank = refl
-    by (Whole code) = known (kind_of code)
+    by None = refl
+    by (Some code) = known (kind_of code)

@@ -13,8 +13,7 @@ use Rattle.rounding.specs.Range.{In}
 use Rattle.cells.specs.Greatest.{greatest}
 use Rattle.cells.specs.Lowest.{lowest}
 use Rattle.cells.specs.Refusal.{gives}
-use Rattle.cells.specs.Row.{cell_count}
-use Rattle.cells.specs.declared.row.Cell.{Cell}
+use Rattle.cells.specs.Row.{cell_count, Cell}
 use Rattle.sp64.specs.Buckling.{euler_capacity}
 use Rattle.sp64.specs.Combined.{axial_share, second_order_moment, combined, compression_bending_utilisation}
 use Rattle.sp64.specs.declared.tables.Stress.TheVariants.{Compression}

@@ -1,19 +1,14 @@
 -- "Check a row": which rows are refused, by which number and cell, in which order.
 -- Assumes nothing.
-use Rattle.std.specs.Prelude.{ℕ, Bool, not, cond, ◌&&◌, List, eqb, get_or}
+use Rattle.std.specs.Prelude.{ℕ, Bool, not, cond, ◌&&◌, List, eqb, get_or, None, Some, Option}
 use Rattle.std.specs.Bool.{beq}
 use Rattle.cells.specs.Lowest.{lowest}
-use Rattle.cells.specs.Refusal.{Result, gives, refuses, refused_by}
-use Rattle.cells.specs.declared.row.Cell.{Cell}
-use Rattle.cells.specs.declared.row.Cell.TheVariants.{Blank, Whole}
+use Rattle.cells.specs.Refusal.{Result, gives, refuses}
+use Rattle.cells.specs.Row.{Cell}
 use Rattle.member.specs.Kind.{kind_of}
 use Rattle.member.specs.Cells.{filled, value_of, optional, wanted, known_code, in_range}
 use Rattle.member.specs.Member.{values_of, member_of}
-use Rattle.member.specs.declared.acceptance.Accepted.{Accepted}
-use Rattle.member.specs.declared.acceptance.Accepted.TheVariants.{Refused, Member as Accept}
 use Rattle.member.specs.declared.kind.Kind.{Kind}
-use Rattle.member.specs.declared.kind.KindCode.{KindCode}
-use Rattle.member.specs.declared.kind.KindCode.TheVariants.{Known, Unknown}
 use Rattle.member.specs.declared.member.Member.{Member}
 
 -- cell n begins a joint: it is filled, and one of those of which the kind fills all or none
@@ -54,20 +49,15 @@ accept_kind kind cells =
     (gives (member_of kind begun (values_of cells)))))
 
 -- refusal 3 of cell 1 where its code is unknown
-abbrev pub accept_code : KindCode → List Cell → Result Member
-accept_code Unknown cells = refuses 3 1
-accept_code (Known kind) cells = accept_kind kind cells
+abbrev pub accept_code : Option Kind → List Cell → Result Member
+accept_code None cells = refuses 3 1
+accept_code (Some kind) cells = accept_kind kind cells
 
 -- refusal 2 of cell 1 where it is blank
 abbrev pub accept_first : Cell → List Cell → Result Member
-accept_first Blank cells = refuses 2 1
-accept_first (Whole code) cells = accept_code (kind_of code) cells
+accept_first None cells = refuses 2 1
+accept_first (Some code) cells = accept_code (kind_of code) cells
 
 -- "Check a row", its refusals: the member that the row describes, or why it is refused
 abbrev pub accept : List Cell → Result Member
-accept cells = accept_first (get_or cells 0 Blank) cells
-
--- what the code's answer says: the member, or a refusal by number and cell
-abbrev pub accepted_result : Accepted → Result Member
-accepted_result (Refused refusal) = refused_by refusal
-accepted_result (Accept m) = gives m
+accept cells = accept_first (get_or cells 0 None) cells

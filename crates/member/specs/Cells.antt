@@ -1,9 +1,8 @@
 -- The cells of a row: which of them a kind fills, which codes are known, and the range of each value.
 -- Assumes nothing.
-use Rattle.std.specs.Prelude.{ℕ, ◌-◌, Bool, true, false, cond, ◌&&◌, ◌||◌, List, [], ◌∷◌, leb, eqb, get_or}
+use Rattle.std.specs.Prelude.{ℕ, ◌-◌, Bool, true, false, cond, ◌&&◌, ◌||◌, List, [], ◌∷◌, leb, eqb, get_or, None, Some}
 use Rattle.std.specs.Bool.{beq}
-use Rattle.cells.specs.declared.row.Cell.{Cell}
-use Rattle.cells.specs.declared.row.Cell.TheVariants.{Blank, Whole}
+use Rattle.cells.specs.Row.{Cell}
 use Rattle.sp64.specs.Tables.{table_strength, duration_factor, slenderness_limit}
 use Rattle.sp64.specs.declared.tables.Stress.TheVariants.{Bending as bendingStress}
 use Rattle.member.specs.declared.kind.Kind.{Kind}
@@ -11,13 +10,13 @@ use Rattle.member.specs.declared.kind.Kind.TheVariants.{Tension, Bending, Compre
 
 -- whether a cell is filled
 abbrev pub filled : Cell → Bool
-filled Blank = false
-filled (Whole value) = true
+filled None = false
+filled (Some value) = true
 
 -- the value of a cell, 0 for a blank
 abbrev pub value_of : Cell → ℕ
-value_of Blank = 0
-value_of (Whole value) = value
+value_of None = 0
+value_of (Some value) = value
 
 -- from lo to hi
 abbrev pub within : ℕ → ℕ → ℕ → Bool

@@ -2,31 +2,16 @@
 -- Assumes nothing.
 use Rattle.std.specs.Prelude.{ℕ, ◌≡◌, Bool, false, not, List, [], ◌∷◌, eqb}
 use Rattle.cells.specs.Greatest.{Among}
-use Rattle.member.specs.Member.{Across, across_height, across_width}
+use Rattle.member.specs.Member.{across_height, across_width}
+pub use Rattle.member.specs.declared.check.YesNoCheck.{YesNoCheck}
+pub use Rattle.member.specs.declared.check.YesNoCheck.TheVariants.{Layout as layout, Slenderness as slenderness, JointLength as joint_length}
+pub use Rattle.member.specs.declared.check.StrengthCheck.{StrengthCheck}
+pub use Rattle.member.specs.declared.check.StrengthCheck.TheVariants.{NetTension as net_tension, SidePieces as side_pieces, Bending as bending, Shear as shear, Buckling as buckling, CompressionBending as compression_bending, TensionBending as tension_bending}
+pub use Rattle.member.specs.declared.check.Check.{Check}
+pub use Rattle.member.specs.declared.check.Check.TheVariants.{YesNo as yes_no, Strength as strength}
 use Rattle.member.specs.declared.kind.Kind.{Kind}
 use Rattle.member.specs.declared.kind.Kind.TheVariants.{Tension, Bending, Compression, CompressionBending, TensionBending}
 use Rattle.member.specs.declared.member.Member.{Member}
-
--- the yes-or-no checks
-pub data YesNoCheck : Type 0 where
-  layout : YesNoCheck
-  slenderness : Across → YesNoCheck
-  joint_length : YesNoCheck
-
--- the strength checks; check 11 of kind 4 and of kind 5
-pub data StrengthCheck : Type 0 where
-  net_tension : StrengthCheck
-  side_pieces : StrengthCheck
-  bending : StrengthCheck
-  shear : StrengthCheck
-  buckling : Across → StrengthCheck
-  compression_bending : StrengthCheck
-  tension_bending : StrengthCheck
-
--- a check
-pub data Check : Type 0 where
-  yes_no : YesNoCheck → Check
-  strength : StrengthCheck → Check
 
 -- document 01's number of a check
 abbrev pub check_number : Check → ℕ

@@ -1,16 +1,15 @@
 -- Demand 3: on which side of the code's line a verdict and a count fall.
 -- Assumes nothing.
-use Rattle.std.specs.Prelude.{ℕ, ◌≤◌, ◌<◌, ◌≡◌, true, false, ◌↔◌, List}
+use Rattle.std.specs.Prelude.{ℕ, ◌≤◌, ◌<◌, ◌≡◌, true, false, ◌↔◌, List, Result as Answer, Ok}
 use Rattle.cells.specs.Refusal.{gives}
-use Rattle.cells.specs.declared.row.Cell.{Cell}
+use Rattle.cells.specs.declared.refusal.Refusal.{Refusal}
+use Rattle.cells.specs.Row.{Cell}
 use Rattle.rounding.specs.Fraction.{Fraction, scaled}
 use Rattle.sp64.specs.Joint.{LeastCount}
 use Rattle.member.specs.Acceptance.{accept}
 use Rattle.member.specs.Checks.{Check, yes_no, joint_length, check_number, Has}
 use Rattle.member.specs.Unrounded.{Forces, forces_of, times, Holds}
 use Rattle.member.specs.declared.member.Member.{Member}
-use Rattle.member.specs.declared.verdict.Answer.{Answer}
-use Rattle.member.specs.declared.verdict.Answer.TheVariants.{Judged}
 use Rattle.member.specs.declared.verdict.Verdict.{Verdict}
 
 -- demand 3: the factor of N, M and Q, in thousandths, with which a check that failed must fail unrounded; that of check 4 also bounds the count; checks 1 to 3,
@@ -65,5 +64,5 @@ abbrev pub Demand3 : Member → Verdict → (Check → ℕ) → Type 0
 Demand3 m = Demand3At m (forces_of m)
 
 -- for every row that is not refused the answer is a verdict, and the verdict keeps demand 3
-abbrev pub KeepsDemand3 : List Cell → Answer → (Check → ℕ) → Type 0
-KeepsDemand3 cells answer k = (m : Member) → accept cells ≡ gives m → (v : Verdict) × (answer ≡ Judged v) × Demand3 m v k
+abbrev pub KeepsDemand3 : List Cell → Answer Verdict Refusal → (Check → ℕ) → Type 0
+KeepsDemand3 cells answer k = (m : Member) → accept cells ≡ gives m → (v : Verdict) × (answer ≡ Ok v) × Demand3 m v k

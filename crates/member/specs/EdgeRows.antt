@@ -1,19 +1,17 @@
 -- Rows on the edge of the factor, where the check named beside each still holds unrounded with the forces times 1.005 and no longer times 1.006; and rows whose
 -- verdicts have the greatest count and the greatest utilisation.
 -- Assumes nothing.
-use Rattle.std.specs.Prelude.{List, [], ◌∷◌}
-use Rattle.cells.specs.Row.{cell_count, blanks, with_cell, fill_from}
-use Rattle.cells.specs.declared.row.Cell.{Cell}
-use Rattle.cells.specs.declared.row.Cell.TheVariants.{Whole}
+use Rattle.std.specs.Prelude.{List, [], ◌∷◌, Some}
+use Rattle.cells.specs.Row.{cell_count, blanks, with_cell, fill_from, Cell}
 use Rattle.member.specs.WorkedRows.{row_a, row_e}
 
 -- check 4 and the count: row E with another N and a length of 756; 24 dowels in 8 columns for 1.005 × N, 25 in 9 for 1.006 × N
 abbrev pub joint_edge : List Cell
-joint_edge = with_cell 8 (Whole 97467) (with_cell 17 (Whole 756) row_e)
+joint_edge = with_cell 8 (Some 97467) (with_cell 17 (Some 756) row_e)
 
 -- checks 5 and 6, whose capacities are equal here: row E with another N
 abbrev pub tension_edge : List Cell
-tension_edge = with_cell 8 (Whole 290794) row_e
+tension_edge = with_cell 8 (Some 290794) row_e
 
 -- checks 7 and 8: row A with another M and Q
 abbrev pub bending_edge : List Cell

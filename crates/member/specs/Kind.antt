@@ -1,21 +1,20 @@
 -- The kinds of member, cell 1.
 -- Assumes nothing.
-use Rattle.std.specs.Prelude.{ℕ, cond, eqb}
+use Rattle.std.specs.Prelude.{ℕ, cond, eqb, Option, Some, None}
+use Rattle.member.specs.declared.kind.Kind.{Kind}
 use Rattle.member.specs.declared.kind.Kind.TheVariants.{Tension, Bending, Compression, CompressionBending, TensionBending}
-use Rattle.member.specs.declared.kind.KindCode.{KindCode}
-use Rattle.member.specs.declared.kind.KindCode.TheVariants.{Known, Unknown}
 
 -- cell 1: 1 tension, 2 bending, 3 compression, 4 compression with bending, 5 tension with bending
-abbrev pub kind_of : ℕ → KindCode
+abbrev pub kind_of : ℕ → Option Kind
 kind_of code =
     cond (eqb code 1)
-    (Known Tension)
+    (Some Tension)
     (cond (eqb code 2)
-    (Known Bending)
+    (Some Bending)
     (cond (eqb code 3)
-    (Known Compression)
+    (Some Compression)
     (cond (eqb code 4)
-    (Known CompressionBending)
+    (Some CompressionBending)
     (cond (eqb code 5)
-    (Known TensionBending)
-    Unknown))))
+    (Some TensionBending)
+    None))))

@@ -1,7 +1,7 @@
 -- The member that a row describes: its cells by name.
 -- Assumes nothing.
 use Rattle.std.specs.Prelude.{ℕ, ◌-◌, Bool, cond, List, map, get_or}
-use Rattle.cells.specs.declared.row.Cell.{Cell}
+use Rattle.cells.specs.Row.{Cell}
 use Rattle.rounding.specs.Fraction.{Fraction}
 use Rattle.sp64.specs.Capacity.{NR, exact_nr, MR, exact_mr}
 use Rattle.sp64.specs.Joint.{joint_count}
@@ -11,6 +11,8 @@ use Rattle.sp64.specs.declared.joint.Joint.{Joint}
 use Rattle.sp64.specs.declared.strut.Strut.{Strut}
 use Rattle.sp64.specs.declared.tables.Stress.{Stress}
 use Rattle.member.specs.Cells.{value_of}
+pub use Rattle.member.specs.declared.check.Across.{Across}
+pub use Rattle.member.specs.declared.check.Across.TheVariants.{Height as across_height, Width as across_width}
 use Rattle.member.specs.declared.kind.Kind.{Kind}
 use Rattle.member.specs.declared.member.Member.{Member}
 
@@ -54,11 +56,6 @@ member_of kind jointed values =
       jointed = jointed;
       joint = joint_of values;
     }
-
--- the ways in which a member may buckle
-pub data Across : Type 0 where
-  across_height : Across
-  across_width : Across
 
 -- the member as a strut: Lh with h, and Lb with b
 abbrev pub strut_of : Member → Across → Strut

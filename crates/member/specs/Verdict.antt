@@ -11,15 +11,13 @@ use Rattle.sp64.specs.Slenderness.{slenderness_holds}
 use Rattle.sp64.specs.Strength.{design_strength}
 use Rattle.sp64.specs.declared.tables.Stress.TheVariants.{Compression, Tension, Shear}
 use Rattle.cells.specs.Greatest.{greater_by, greatest}
-use Rattle.cells.specs.Refusal.{Result, gives, refuses, refused_by}
-use Rattle.cells.specs.declared.row.Cell.{Cell}
+use Rattle.cells.specs.Refusal.{Result, gives, refuses}
+use Rattle.cells.specs.Row.{Cell}
 use Rattle.member.specs.Acceptance.{accept}
 use Rattle.member.specs.Checks.{YesNoCheck, StrengthCheck, yes_no, strength, check_number, yes_no_checks, strength_checks, omitted, layout, slenderness, joint_length, net_tension, side_pieces, bending, shear, buckling, compression_bending, tension_bending}
 use Rattle.member.specs.Member.{across_height, strut_of, limit_of, count_of, NRof, MRof}
 use Rattle.member.specs.declared.kind.Kind.{Kind}
 use Rattle.member.specs.declared.member.Member.{Member}
-use Rattle.member.specs.declared.verdict.Answer.{Answer}
-use Rattle.member.specs.declared.verdict.Answer.TheVariants.{Refused, Judged}
 use Rattle.member.specs.declared.verdict.Governing.{Governing}
 use Rattle.member.specs.declared.verdict.Verdict.{Verdict}
 
@@ -106,8 +104,3 @@ judged (refuses number cell) = refuses number cell
 -- "Check a row": the verdict, or a refusal by number and cell
 abbrev pub check_row : List Cell → Result Verdict
 check_row cells = judged (accept cells)
-
--- what the row check's answer says in document 01's terms
-abbrev pub answer_result : Answer → Result Verdict
-answer_result (Refused refusal) = refused_by refusal
-answer_result (Judged verdict) = gives verdict

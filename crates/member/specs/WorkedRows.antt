@@ -1,9 +1,7 @@
 -- The worked rows A to H of document 01, by cell number; rows of kind 1 without a joint and with half a one, and of kind 5, which A to H lack; and a row of kind 4 on the edge of demand 3.
 -- Assumes nothing.
-use Rattle.std.specs.Prelude.{List, [], ◌∷◌}
-use Rattle.cells.specs.Row.{cell_count, blanks, with_cell, fill_from}
-use Rattle.cells.specs.declared.row.Cell.{Cell}
-use Rattle.cells.specs.declared.row.Cell.TheVariants.{Blank, Whole}
+use Rattle.std.specs.Prelude.{List, [], ◌∷◌, None, Some}
+use Rattle.cells.specs.Row.{cell_count, blanks, with_cell, fill_from, Cell}
 
 -- row A: kind 2, M and Q in cells 9 and 10
 abbrev pub row_a : List Cell
@@ -15,11 +13,11 @@ row_b = fill_from 1 (3 ∷ 3 ∷ 2 ∷ 13 ∷ 1000 ∷ 100 ∷ 200 ∷ 50000 ∷
 
 -- row C: B with Lb 2020, the last below slenderness 70
 abbrev pub row_c : List Cell
-row_c = with_cell 12 (Whole 2020) row_b
+row_c = with_cell 12 (Some 2020) row_b
 
 -- row D: B with Lb 2021, the first above slenderness 70
 abbrev pub row_d : List Cell
-row_d = with_cell 12 (Whole 2021) row_b
+row_d = with_cell 12 (Some 2021) row_b
 
 -- row E without its joint: kind 1
 abbrev pub row_without_joint : List Cell
@@ -31,11 +29,11 @@ row_e = fill_from 14 (50 ∷ 12 ∷ 3 ∷ 840 ∷ 500 ∷ 800 ∷ 1800 ∷ 20 �
 
 -- row F: E with 839
 abbrev pub row_f : List Cell
-row_f = with_cell 17 (Whole 839) row_e
+row_f = with_cell 17 (Some 839) row_e
 
 -- row G: E with d 16
 abbrev pub row_g : List Cell
-row_g = with_cell 15 (Whole 16) row_e
+row_g = with_cell 15 (Some 16) row_e
 
 -- row H: every cell blank
 abbrev pub row_h : List Cell
@@ -43,7 +41,7 @@ row_h = blanks cell_count
 
 -- row E without cell 14: half a joint
 abbrev pub row_half_joint : List Cell
-row_half_joint = with_cell 14 Blank row_e
+row_half_joint = with_cell 14 None row_e
 
 -- a row of kind 5: the section, moment and shear of row A with the force and the lengths of row E
 abbrev pub row_of_kind5 : List Cell

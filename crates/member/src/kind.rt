@@ -1,17 +1,10 @@
 // The five kinds of member, cell 1.
 
-#[derive(Clone, Copy)]
+#[derive(Clone, Copy, Debug, PartialEq, Eq)]
 pub enum Kind {
     Tension,
     Bending,
     Compression,
     CompressionBending,
     TensionBending,
-}
-
-// What the code in cell 1 stands for.
-#[derive(Clone, Copy)]
-pub enum KindCode {
-    Known(Kind),
-    Unknown,
 }

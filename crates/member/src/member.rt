@@ -19,8 +19,9 @@ pub struct Member {
     // the effective lengths Lh and Lb
     pub lh: u64,
     pub lb: u64,
-    // the row of Table 16
+    // the row of Table 16: a number, as that table is a match on one (decision 17)
     pub table16: u64,
+    // Whether cells 14 to 22 are filled. No Option: like every other field that a row leaves blank, those of the joint are 0, and the definitions name them so.
     pub jointed: bool,
     pub joint: Joint,
 }

@@ -1,8 +1,9 @@
 // What the row check answers.
-use cells::refusal::Refusal;
 
 // Pass or fail, the check that the verdict names, its utilisation in millionths, and the dowel count. Utilisation, count and check, which become floats one after the
 // other, stand apart: side by side, the compiler would turn two at once into floats, in a way that makes −0 of 0 where the host rounds down.
+// The check is document 01's number of a `Check`: every output is that number, a float to the host or a field of a line.
+// Utilisation and count are 0 where document 01 gives 0, after a yes-or-no check and without a joint: numbers of the answer, and no marks for none.
 #[derive(Clone, Copy)]
 pub struct Verdict {
     pub utilisation: u32,
@@ -11,14 +12,7 @@ pub struct Verdict {
     pub count: u32,
 }
 
-// What the row check answers.
-#[derive(Clone, Copy)]
-pub enum Answer {
-    Refused(Refusal),
-    Judged(Verdict),
-}
-
-// A check and its utilisation.
+// A check, by its number as in a verdict, and its utilisation.
 #[derive(Clone, Copy)]
 pub struct Governing {
     pub check: u32,

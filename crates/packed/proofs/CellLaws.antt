@@ -8,39 +8,25 @@ use native.Mathlib.Omega.{arith}
 use mathlib.Core.List.{List, [], ◌∷◌, ◌++◌, append_assoc, append-nil}
 use mathlib.Core.Bool.{Bool, true, false, not}
 use lib.ListN.{length, get_or, take, drop, replicate, length-append, length-replicate, take-append-drop}
-use lib.Seq.{take-suc, length-take-le, get_or-take}
+use lib.Seq.{take-suc}
 use lib.Dec.{leb, ltb}
 use borrow.Author.Tests.{ltb-true, ltb-false, le-leb, lt-leb, not-false}
-use Rattle.cells.specs.Row.{cell_count, value_bits, cells_of}
-use Rattle.cells.specs.declared.row.Cell.{Cell}
-use Rattle.cells.specs.declared.row.Cell.TheVariants.{Blank, Whole}
-use Rattle.cells.specs.declared.row.Row.{Row}
+use Rattle.std.specs.Prelude.{None, Some}
+use Rattle.cells.specs.Row.{value_bits, Cell}
 use Rattle.cells.proofs.LowestLaws.{Passes, FailsAt, lowest_meaning}
-use Rattle.cells.proofs.RowLaws.{cell_at, length_cells}
 use Rattle.packed.specs.Bits.{Bytes, bits_of, bytes_of}
 use Rattle.packed.specs.Packing.{cell_bits, row_bits, bytes_for, packed, too_wide, lowest_wide}
 use Rattle.packed.proofs.BitLaws.{length_bits, length-bits_of, length-bytes_of, bytes_of-filled}
 
--- ---- the first n cells of a row
-
--- they are n
-pub length_first : (row : Row) → length row.cells ≡ cell_count → (n : ℕ) → n ≤ cell_count → length (take n (cells_of row)) ≡ n
-length_first row whole n h = let e = length_cells row whole in length-take-le n (cells_of row) (omega arith)
-
--- the cell at a place among them is the one in the slot there
-pub first_at : (row : Row) (n i : ℕ) → i < n → get_or (take n (cells_of row)) i Blank ≡ (get_or row.cells i (record { cell = Blank })).cell
-first_at row n i h =
-    get_or-take n (cells_of row) i Blank h ∙ cell_at row i
-
 -- ---- the bits of cells
 
 -- a blank has one bit
-pub length_blank : length (cell_bits Blank) ≡ 1
+pub length_blank : length (cell_bits None) ≡ 1
 unfolding cell_bits
 length_blank = refl
 
 -- a whole number has 35
-pub length_whole : (value : ℕ) → length (cell_bits (Whole value)) ≡ 35
+pub length_whole : (value : ℕ) → length (cell_bits (Some value)) ≡ 35
 unfolding cell_bits
 length_whole value = ap suc (length_bits value_bits value)
 
@@ -48,17 +34,17 @@ length_whole value = ap suc (length_bits value_bits value)
 pub row_bits_least : (cells : List Cell) → length cells ≤ length (row_bits cells)
 unfolding row_bits
 row_bits_least [] = omega arith
-row_bits_least (Blank ∷ cells) = omega (arith, row_bits_least cells, length-append (cell_bits Blank) (row_bits cells), length_blank)
-row_bits_least (Whole value ∷ cells) =
-    omega (arith, row_bits_least cells, length-append (cell_bits (Whole value)) (row_bits cells), length_whole value)
+row_bits_least (None ∷ cells) = omega (arith, row_bits_least cells, length-append (cell_bits None) (row_bits cells), length_blank)
+row_bits_least (Some value ∷ cells) =
+    omega (arith, row_bits_least cells, length-append (cell_bits (Some value)) (row_bits cells), length_whole value)
 
 -- and at most 35
 pub row_bits_most : (cells : List Cell) → length (row_bits cells) ≤ 35 * length cells
 unfolding row_bits
 row_bits_most [] = omega arith
-row_bits_most (Blank ∷ cells) = omega (arith, row_bits_most cells, length-append (cell_bits Blank) (row_bits cells), length_blank)
-row_bits_most (Whole value ∷ cells) =
-    omega (arith, row_bits_most cells, length-append (cell_bits (Whole value)) (row_bits cells), length_whole value)
+row_bits_most (None ∷ cells) = omega (arith, row_bits_most cells, length-append (cell_bits None) (row_bits cells), length_blank)
+row_bits_most (Some value ∷ cells) =
+    omega (arith, row_bits_most cells, length-append (cell_bits (Some value)) (row_bits cells), length_whole value)
 
 -- packed cells have the bytes that their bits need
 pub length_packed : (cells : List Cell) → length (packed cells) ≡ bytes_for (length (row_bits cells))
@@ -92,19 +78,19 @@ module _ (cells : List Cell) (i : ℕ) where
 
   module _ (inside : i < length cells) where
     -- the cell at i adds its bits to theirs
-    pub row_bits_next : row_bits (take (i + 1) cells) ≡ row_bits (take i cells) ++ cell_bits (get_or cells i Blank)
+    pub row_bits_next : row_bits (take (i + 1) cells) ≡ row_bits (take i cells) ++ cell_bits (get_or cells i None)
     row_bits_next =
-        rw (add-one, take-suc cells i Blank inside, row_bits-append (take i cells) (get_or cells i Blank ∷ []))
-        (unfold row_bits in ap (λ (bs : List Bool). row_bits (take i cells) ++ bs) (append-nil (cell_bits (get_or cells i Blank))))
+        rw (add-one, take-suc cells i None inside, row_bits-append (take i cells) (get_or cells i None ∷ []))
+        (unfold row_bits in ap (λ (bs : List Bool). row_bits (take i cells) ++ bs) (append-nil (cell_bits (get_or cells i None))))
 
     -- and as many
-    pub length_next : length (row_bits (take (i + 1) cells)) ≡ length (row_bits (take i cells)) + length (cell_bits (get_or cells i Blank))
-    length_next = ap length row_bits_next ∙ length-append (row_bits (take i cells)) (cell_bits (get_or cells i Blank))
+    pub length_next : length (row_bits (take (i + 1) cells)) ≡ length (row_bits (take i cells)) + length (cell_bits (get_or cells i None))
+    length_next = ap length row_bits_next ∙ length-append (row_bits (take i cells)) (cell_bits (get_or cells i None))
 
 -- ---- cells that are too wide
 
 -- the code's test of a value is the definition's
-pub wide_test : (value : ℕ) → leb (2 ^ value_bits) value ≡ too_wide (Whole value)
+pub wide_test : (value : ℕ) → leb (2 ^ value_bits) value ≡ too_wide (Some value)
 wide_test value = by (ltb value (2 ^ value_bits)) refl
   where
     by : (t : Bool) → ltb value (2 ^ value_bits) ≡ t → leb (2 ^ value_bits) value ≡ not t
@@ -112,7 +98,7 @@ wide_test value = by (ltb value (2 ^ value_bits)) refl
     by false e = le-leb (2 ^ value_bits) value (ltb-false value (2 ^ value_bits) e)
 
 -- a value that is not too wide has 34 bits
-pub narrow_lt : (value : ℕ) → too_wide (Whole value) ≡ false → value < 2 ^ value_bits
+pub narrow_lt : (value : ℕ) → too_wide (Some value) ≡ false → value < 2 ^ value_bits
 narrow_lt value h = ltb-true value (2 ^ value_bits) (not-false (ltb value (2 ^ value_bits)) h)
 
 -- the test that finds the lowest: a cell's number does not matter
@@ -121,12 +107,12 @@ wide_cell n cell = too_wide cell
 
 -- no cell is too wide
 abbrev pub NoneTooWide : List Cell → Type 0
-NoneTooWide cells = (i : ℕ) → i < length cells → too_wide (get_or cells i Blank) ≡ false
+NoneTooWide cells = (i : ℕ) → i < length cells → too_wide (get_or cells i None) ≡ false
 
 -- where none is found too wide, none is
 pub narrow_cells : (cells : List Cell) → lowest_wide cells ≡ 0 → NoneTooWide cells
 narrow_cells cells none = by (lowest_meaning wide_cell 1 cells)
   where
     by : Passes wide_cell 1 cells ⊎ ((k : ℕ) × FailsAt wide_cell 1 cells k) → NoneTooWide cells
-    by (inl passes) i h = passes.all i Blank h
+    by (inl passes) i h = passes.all i None h
     by (inr (k, fails)) i h = absurd (omega (arith, fails.found, none))

@@ -9,10 +9,9 @@ use mathlib.Core.Path.{◌≡◌, refl}
 use lib.Dec.{leb}
 use lib.ListN.{length, drop}
 use borrow.Author.Tests.{ne_eqb, le-leb, lt-leb}
+use Rattle.std.specs.Prelude.{None, Some}
 use Rattle.cells.specs.Refusal.{Result, gives, refuses}
-use Rattle.cells.specs.Row.{cell_count, value_bits, blanks}
-use Rattle.cells.specs.declared.row.Cell.{Cell}
-use Rattle.cells.specs.declared.row.Cell.TheVariants.{Blank, Whole}
+use Rattle.cells.specs.Row.{cell_count, value_bits, blanks, Cell}
 use Rattle.packed.specs.Bits.{number, bits_of}
 use Rattle.packed.specs.Packing.{packed, lowest_wide, pack_result, pack_buffer}
 use Rattle.packed.specs.Unpacking.{before, parse, any_set, padding, ending, unpacked, held}
@@ -52,11 +51,11 @@ parse_cut_off : (n i : ℕ) (bs : List Bool) → CutOff n i (parse n i bs)
 unfolding parse
 parse_cut_off zero i bs = tt
 parse_cut_off (suc n) i [] = (refl, omega arith, omega arith)
-parse_cut_off (suc n) i (false ∷ bs) = later_cut_off n i Blank (parse n (suc i) bs) (parse_cut_off n (suc i) bs)
+parse_cut_off (suc n) i (false ∷ bs) = later_cut_off n i None (parse n (suc i) bs) (parse_cut_off n (suc i) bs)
 parse_cut_off (suc n) i (true ∷ bs) = by (parse_cut_off n (suc i) (drop value_bits bs)) (leb value_bits (length bs))
   where
-    by : CutOff n (suc i) (parse n (suc i) (drop value_bits bs)) → (t : Bool) → CutOff (suc n) i (cond t (before (Whole (number value_bits bs)) (parse n (suc i) (drop value_bits bs))) (refuses 6 i))
-    by later true = later_cut_off n i (Whole (number value_bits bs)) (parse n (suc i) (drop value_bits bs)) later
+    by : CutOff n (suc i) (parse n (suc i) (drop value_bits bs)) → (t : Bool) → CutOff (suc n) i (cond t (before (Some (number value_bits bs)) (parse n (suc i) (drop value_bits bs))) (refuses 6 i))
+    by later true = later_cut_off n i (Some (number value_bits bs)) (parse n (suc i) (drop value_bits bs)) later
     by later false = (refl, omega arith, omega arith)
 
 -- a refusal to unpack n cells is 6 for one of them, or 7 for none

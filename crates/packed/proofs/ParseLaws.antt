@@ -10,11 +10,10 @@ use lib.ListN.{length, drop, replicate, length-append, take-append-drop}
 use lib.Seq.{drop_at, drop-append-le}
 use lib.Dec.{leb}
 use borrow.Author.Tests.{le-leb, leb-true, lt-ltb}
-use Rattle.cells.specs.Row.{value_bits}
+use Rattle.std.specs.Prelude.{None, Some}
+use Rattle.cells.specs.Row.{value_bits, Cell}
 use Rattle.cells.specs.Lowest.{lowest}
 use Rattle.cells.specs.Refusal.{Result, gives, refuses}
-use Rattle.cells.specs.declared.row.Cell.{Cell}
-use Rattle.cells.specs.declared.row.Cell.TheVariants.{Blank, Whole}
 use Rattle.packed.specs.Bits.{bits, number}
 use Rattle.packed.specs.Packing.{cell_bits, row_bits}
 use Rattle.packed.specs.Unpacking.{before, parse, any_set}
@@ -29,8 +28,8 @@ pub parse_cells : (cells : List Cell) (i : ℕ) (rest : List Bool)
     → parse (length cells) i (row_bits cells ++ rest) ≡ gives (cells, rest)
 unfolding parse row_bits before cell_bits
 parse_cells [] i rest narrow = refl
-parse_cells (Blank ∷ cells) i rest narrow = rw (parse_cells cells (suc i) rest (λ k h. narrow (suc k) (suc-le-suc h)))
-parse_cells (Whole value ∷ cells) i rest narrow =
+parse_cells (None ∷ cells) i rest narrow = rw (parse_cells cells (suc i) rest (λ k h. narrow (suc k) (suc-le-suc h)))
+parse_cells (Some value ∷ cells) i rest narrow =
     let enough : value_bits ≤ length (bits value_bits value ++ (row_bits cells ++ rest)) = simp (length-append, length_bits) (omega arith) in
     rw (
       append_assoc (bits value_bits value) (row_bits cells) rest,
@@ -39,7 +38,7 @@ parse_cells (Whole value ∷ cells) i rest narrow =
       drop_at (bits value_bits value) (row_bits cells ++ rest) value_bits (length_bits value_bits value),
       parse_cells cells (suc i) rest (λ k h. narrow (suc k) (suc-le-suc h)),
     )
-    (ap (λ (v : ℕ). gives (Whole v ∷ cells, rest)) (mod-eq_of_lt (narrow_lt value (narrow 0 (omega arith)))))
+    (ap (λ (v : ℕ). gives (Some v ∷ cells, rest)) (mod-eq_of_lt (narrow_lt value (narrow 0 (omega arith)))))
 
 -- ---- and back
 
@@ -55,7 +54,7 @@ IfParsed n bs (gives (cells, rest)) = Parses n bs cells rest
 IfParsed n bs (refuses number cell) = Unit {0}
 
 -- one blank more
-parsed_blank : (n : ℕ) (bs : List Bool) (later : Result (List Cell × List Bool)) → IfParsed n bs later → IfParsed (suc n) (false ∷ bs) (before Blank later)
+parsed_blank : (n : ℕ) (bs : List Bool) (later : Result (List Cell × List Bool)) → IfParsed n bs later → IfParsed (suc n) (false ∷ bs) (before None later)
 unfolding before row_bits cell_bits lowest
 parsed_blank n bs (gives (cells, rest)) h =
     record {
@@ -67,7 +66,7 @@ parsed_blank n bs (refuses number cell) h = tt
 
 -- one whole number more
 parsed_whole : (n : ℕ) (bs : List Bool) (later : Result (List Cell × List Bool)) → value_bits ≤ length bs → IfParsed n (drop value_bits bs) later
-    → IfParsed (suc n) (true ∷ bs) (before (Whole (number value_bits bs)) later)
+    → IfParsed (suc n) (true ∷ bs) (before (Some (number value_bits bs)) later)
 unfolding before row_bits cell_bits lowest
 parsed_whole n bs (gives (cells, rest)) enough h =
     record {
@@ -90,7 +89,7 @@ parse_tells (suc n) i (false ∷ bs) = parsed_blank n bs (parse n (suc i) bs) (p
 parse_tells (suc n) i (true ∷ bs) = by (leb value_bits (length bs)) refl (parse_tells n (suc i) (drop value_bits bs))
   where
     by : (t : Bool) → leb value_bits (length bs) ≡ t → IfParsed n (drop value_bits bs) (parse n (suc i) (drop value_bits bs))
-        → IfParsed (suc n) (true ∷ bs) (cond t (before (Whole (number value_bits bs)) (parse n (suc i) (drop value_bits bs))) (refuses 6 i))
+        → IfParsed (suc n) (true ∷ bs) (cond t (before (Some (number value_bits bs)) (parse n (suc i) (drop value_bits bs))) (refuses 6 i))
     by true e h = parsed_whole n bs (parse n (suc i) (drop value_bits bs)) (leb-true value_bits (length bs) e) h
     by false e h = tt
 
@@ -113,12 +112,12 @@ pub parse_extends : (n i : ℕ) (bs more : List Bool) → Extends more (parse n 
 unfolding parse
 parse_extends zero i bs more = refl
 parse_extends (suc n) i [] more = refl
-parse_extends (suc n) i (false ∷ bs) more = extends_before more Blank (parse n (suc i) bs) (parse n (suc i) (bs ++ more)) (parse_extends n (suc i) bs more)
+parse_extends (suc n) i (false ∷ bs) more = extends_before more None (parse n (suc i) bs) (parse n (suc i) (bs ++ more)) (parse_extends n (suc i) bs more)
 parse_extends (suc n) i (true ∷ bs) more = by (leb value_bits (length bs)) refl (parse_extends n (suc i) (drop value_bits bs) more)
   where
     by : (t : Bool) → leb value_bits (length bs) ≡ t → Extends more (parse n (suc i) (drop value_bits bs)) (parse n (suc i) (drop value_bits bs ++ more))
-        → Extends more (cond t (before (Whole (number value_bits bs)) (parse n (suc i) (drop value_bits bs))) (refuses 6 i))
-        (cond (leb value_bits (length (bs ++ more))) (before (Whole (number value_bits (bs ++ more))) (parse n (suc i) (drop value_bits (bs ++ more)))) (refuses 6 i))
+        → Extends more (cond t (before (Some (number value_bits bs)) (parse n (suc i) (drop value_bits bs))) (refuses 6 i))
+        (cond (leb value_bits (length (bs ++ more))) (before (Some (number value_bits (bs ++ more))) (parse n (suc i) (drop value_bits (bs ++ more)))) (refuses 6 i))
     by false e h = refl
     by true e h =
         let enough : value_bits ≤ length bs = leb-true value_bits (length bs) e in
@@ -127,7 +126,7 @@ parse_extends (suc n) i (true ∷ bs) more = by (leb value_bits (length bs)) ref
           number_front value_bits bs more enough,
           drop-append-le value_bits bs more enough,
         )
-        (extends_before more (Whole (number value_bits bs)) (parse n (suc i) (drop value_bits bs)) (parse n (suc i) (drop value_bits bs ++ more)) h)
+        (extends_before more (Some (number value_bits bs)) (parse n (suc i) (drop value_bits bs)) (parse n (suc i) (drop value_bits bs ++ more)) h)
 
 -- ---- padding
 

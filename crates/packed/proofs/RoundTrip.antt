@@ -9,7 +9,7 @@ use lib.ListN.{length, take, drop, replicate, length-append, length-replicate, t
 use lib.Seq.{take_at, take-append-le, length-take-le}
 use borrow.Author.Tests.{le-leb}
 use Rattle.cells.specs.Refusal.{Result, gives, refuses}
-use Rattle.cells.specs.declared.row.Cell.{Cell}
+use Rattle.cells.specs.Row.{Cell}
 use Rattle.packed.specs.Bits.{Bytes, bits_of, bytes_of}
 use Rattle.packed.specs.Packing.{row_bits, bytes_for, packed, lowest_wide, pack_buffer}
 use Rattle.packed.specs.Unpacking.{parse, any_set, padding, ending, unpacked}

@@ -5,10 +5,9 @@ use Prim.Native.Nat.{ℕ, ◌+◌, ◌*◌, ◌≤◌, ◌<◌}
 use native.Mathlib.Omega.{arith}
 use mathlib.Core.List.{List, [], ◌∷◌}
 use lib.ListN.{length}
-use Rattle.cells.specs.Row.{cell_count, blanks, with_cell}
+use Rattle.std.specs.Prelude.{Some}
+use Rattle.cells.specs.Row.{cell_count, blanks, with_cell, Cell}
 use Rattle.cells.specs.Refusal.{gives, refuses}
-use Rattle.cells.specs.declared.row.Cell.{Cell}
-use Rattle.cells.specs.declared.row.Cell.TheVariants.{Whole}
 use Rattle.packed.specs.Bits.{bits, number, bits_of, bytes_of}
 use Rattle.packed.specs.Packing.{cell_bits, row_bits, packed}
 use Rattle.packed.specs.Unpacking.{before, parse, any_set, ending, unpacked}
@@ -56,6 +55,6 @@ unfolding bits bits_of parse before any_set ending unpacked
 padded_row = refl
 
 -- cell 1 holds 1 and the others are blank: the bit 1, the value's 34 bits with its only 1 last, and the blanks
-pub one_cell : packed (with_cell 1 (Whole 1) (blanks cell_count)) ≡ 0x80 ∷ 0 ∷ 0 ∷ 0 ∷ 0x20 ∷ 0 ∷ 0 ∷ []
+pub one_cell : packed (with_cell 1 (Some 1) (blanks cell_count)) ≡ 0x80 ∷ 0 ∷ 0 ∷ 0 ∷ 0x20 ∷ 0 ∷ 0 ∷ []
 unfolding bits number bytes_of cell_bits row_bits packed
 one_cell = refl

@@ -1,19 +1,15 @@
 -- Pack a row: its bits, its bytes, what is refused, and the lent buffer. Everything is stated for any number of cells.
 -- Assumes nothing.
-use Rattle.std.specs.Prelude.{ℕ, ◌+◌, ◌/◌, ◌^◌, List, [], ◌∷◌, ◌++◌, Bool, true, false, cond, not, length, drop, leb, ltb, eqb}
-use Rattle.cells.specs.Row.{value_bits}
+use Rattle.std.specs.Prelude.{ℕ, ◌+◌, ◌/◌, ◌^◌, List, [], ◌∷◌, ◌++◌, Bool, true, false, cond, not, length, drop, leb, ltb, eqb, None, Some}
+use Rattle.cells.specs.Row.{value_bits, Cell}
 use Rattle.cells.specs.Lowest.{lowest}
-use Rattle.cells.specs.Refusal.{Result, gives, refuses, refused_by, where_given}
-use Rattle.cells.specs.declared.row.Cell.{Cell}
-use Rattle.cells.specs.declared.row.Cell.TheVariants.{Blank, Whole}
+use Rattle.cells.specs.Refusal.{Result, gives, refuses, where_given}
 use Rattle.packed.specs.Bits.{bits, bytes_of}
-use Rattle.packed.specs.declared.pack.Packed.{Packed}
-use Rattle.packed.specs.declared.pack.Packed.TheVariants.{Done, Refused}
 
 -- the bits of a cell: a single 0 for a blank; for a whole number a 1 and then its 34 binary digits, most significant first
 unfoldable pub cell_bits : Cell → List Bool
-cell_bits Blank = false ∷ []
-cell_bits (Whole value) = true ∷ bits value_bits value
+cell_bits None = false ∷ []
+cell_bits (Some value) = true ∷ bits value_bits value
 
 -- the bits of cells, cell after cell
 unfoldable pub row_bits : List Cell → List Bool
@@ -30,8 +26,8 @@ packed cells = bytes_of (bytes_for (length (row_bits cells))) (row_bits cells)
 
 -- refusal 4: a value above 34 bits
 abbrev pub too_wide : Cell → Bool
-too_wide Blank = false
-too_wide (Whole value) = not (ltb value (2 ^ value_bits))
+too_wide None = false
+too_wide (Some value) = not (ltb value (2 ^ value_bits))
 
 -- the lowest cell with a value above 34 bits, 0 where there is none
 abbrev pub lowest_wide : List Cell → ℕ
@@ -51,8 +47,3 @@ pack_result cells room =
 -- the buffer after "Pack a row": the packed cells and then what was there, or untouched by a refusal
 abbrev pub pack_buffer : List Cell → List ℕ → List ℕ
 pack_buffer cells buffer = where_given (pack_result cells (length buffer)) (packed_into cells buffer) buffer
-
--- what the answer of packing says: the byte count, or a refusal's number and cell
-abbrev pub packed_result : Packed → Result ℕ
-packed_result (Done count) = gives count
-packed_result (Refused refusal) = refused_by refusal

@@ -1,10 +1,8 @@
 -- Unpack a row: which cells the bits hold, what is refused, and how many bytes are read. Everything is stated for any number of cells.
 -- Assumes nothing.
-use Rattle.std.specs.Prelude.{ℕ, zero, suc, ◌-◌, ◌/◌, ◌%◌, List, [], ◌∷◌, ◌++◌, Bool, true, false, cond, ◌||◌, length, take, drop, leb}
-use Rattle.cells.specs.Row.{cell_count, value_bits, blanks}
+use Rattle.std.specs.Prelude.{ℕ, zero, suc, ◌-◌, ◌/◌, ◌%◌, List, [], ◌∷◌, ◌++◌, Bool, true, false, cond, ◌||◌, length, take, drop, leb, None, Some}
+use Rattle.cells.specs.Row.{cell_count, value_bits, blanks, Cell}
 use Rattle.cells.specs.Refusal.{Result, gives, refuses}
-use Rattle.cells.specs.declared.row.Cell.{Cell}
-use Rattle.cells.specs.declared.row.Cell.TheVariants.{Blank, Whole}
 use Rattle.packed.specs.Bits.{number, bits_of}
 
 -- a cell and then what the later cells give
@@ -16,9 +14,9 @@ before cell (refuses number named) = refuses number named
 unfoldable pub parse : ℕ → ℕ → List Bool → Result (List Cell × List Bool)
 parse zero i bs = gives ([], bs)
 parse (suc n) i [] = refuses 6 i
-parse (suc n) i (false ∷ bs) = before Blank (parse n (suc i) bs)
+parse (suc n) i (false ∷ bs) = before None (parse n (suc i) bs)
 parse (suc n) i (true ∷ bs) =
-    cond (leb value_bits (length bs)) (before (Whole (number value_bits bs)) (parse n (suc i) (drop value_bits bs))) (refuses 6 i)
+    cond (leb value_bits (length bs)) (before (Some (number value_bits bs)) (parse n (suc i) (drop value_bits bs))) (refuses 6 i)
 
 -- one of these bits is 1
 unfoldable pub any_set : List Bool → Bool

@@ -1,4 +1,2 @@
 // A row as packed bytes, and back: definitions in specs/, both round trips in proofs/. The code is in `codec`.
 #![tactic(auto)]
-
-pub mod pack;

@@ -6,7 +6,7 @@ ghost use Rattle.rounding.specs.Range.{Value};
 ghost use Rattle.rounding.specs.Rounding.{up};
 ghost use Rattle.rounding.specs.Utilisation.{InCapacity, InUtilisation, utilisation};
 
-// n / d, rounded up.
+// n / d, rounded up. By the definition's formula, which a reader holds beside it: the library's `div_ceil` goes by another, and is no plainer.
 pub fn round_up(n: u64, d: u64) -> u64
     requires { (0 < d) × (n + d ≤ 2 ^ 64) }
     ensures { result ≡ up n d }

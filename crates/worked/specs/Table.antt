@@ -3,8 +3,9 @@
 use Rattle.std.specs.Prelude.{List, [], ◌∷◌}
 use Rattle.rounding.specs.Fraction.{fraction, whole, ◌⊕◌}
 use Rattle.sp64.specs.declared.tables.Stress.TheVariants.{Bending, Compression, Tension}
-use Rattle.member.specs.Checks.{shear}
-use Rattle.member.specs.Member.{across_height, across_width, count_of, NRof, exact_nrof, MRof, exact_mrof}
+use Rattle.member.specs.declared.check.Across.TheVariants.{Height as across_height, Width as across_width}
+use Rattle.member.specs.declared.check.StrengthCheck.TheVariants.{Shear as shear}
+use Rattle.member.specs.Member.{count_of, NRof, exact_nrof, MRof, exact_mrof}
 use Rattle.worked.specs.Cases.{Case, verdict, figure, exact, packs, pass, fail}
 use Rattle.member.specs.WorkedRows.{row_a, row_b, row_c, row_d, row_e, row_f, row_g, row_h}
 use Rattle.worked.specs.Values.{strength_in, exact_strength_in, phi, exact_phi, dowel_term, dowel_resistance, exact_dowel_resistance, columns_of, utilisation_in, bending_ratio, buckling_ratio, net_tension_ratio}

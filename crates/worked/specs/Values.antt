@@ -8,10 +8,12 @@ use Rattle.sp64.specs.Joint.{least_term, dowel_capacity, columns, exact_term}
 use Rattle.sp64.specs.Strength.{design_strength, exact_strength}
 use Rattle.sp64.specs.declared.tables.Stress.{Stress}
 use Rattle.sp64.specs.declared.tables.Stress.TheVariants.{Compression, Tension}
-use Rattle.member.specs.Checks.{StrengthCheck}
-use Rattle.member.specs.Member.{Across, across_width, strut_of, count_of, exact_nrof, exact_mrof}
+use Rattle.member.specs.Member.{strut_of, count_of, exact_nrof, exact_mrof}
 use Rattle.member.specs.Unrounded.{forces_of}
 use Rattle.member.specs.Verdict.{utilisation_of}
+use Rattle.member.specs.declared.check.Across.{Across}
+use Rattle.member.specs.declared.check.Across.TheVariants.{Width as across_width}
+use Rattle.member.specs.declared.check.StrengthCheck.{StrengthCheck}
 use Rattle.member.specs.declared.member.Member.{Member}
 
 -- R of a stress

@@ -14,15 +14,15 @@ use Rattle.rounding.specs.Range.{In}
 use Rattle.worksheet.specs.HostRow.{read_host_row}
 use Rattle.cells.specs.HostBytes.{float_at}
 use Rattle.cells.specs.Refusal.{Result, gives, refuses, and_then, leaves, told}
-use Rattle.cells.specs.Row.{cell_count}
-use Rattle.cells.specs.declared.row.Cell.{Cell}
+use Rattle.cells.specs.Row.{cell_count, Cell}
 use Rattle.worksheet.proofs.AnswerMeaning.{HoldsVerdict, verdict_held}
 use Rattle.worksheet.proofs.ReadRows.{row_as_read}
 use Rattle.member.specs.Acceptance.{accept}
-use Rattle.member.specs.Checks.{Check, Has, check_number}
+use Rattle.member.specs.Checks.{Has, check_number}
 use Rattle.member.specs.Demand3.{demand_factor}
 use Rattle.member.specs.Unrounded.{forces_of, Holds}
 use Rattle.member.specs.Verdict.{verdict, judged, check_row}
+use Rattle.member.specs.declared.check.Check.{Check}
 use Rattle.member.specs.declared.member.Member.{Member}
 use Rattle.member.specs.declared.verdict.Verdict.{Verdict}
 use Rattle.member.proofs.DemandMeaning.{fail_forces, failed}

@@ -7,11 +7,11 @@ use lib.ListN.{length}
 use Rattle.worksheet.specs.HostRow.{read_host_row}
 use Rattle.cells.specs.Refusal.{gives}
 use Rattle.worksheet.proofs.ReadRows.{row_as_read}
-use Rattle.cells.specs.declared.row.Cell.{Cell}
+use Rattle.cells.specs.Row.{Cell}
 use Rattle.member.specs.Acceptance.{accept}
-use Rattle.member.specs.Checks.{Check}
 use Rattle.member.specs.Demand3.{kept_from, EachFrom}
 use Rattle.member.specs.Verdict.{verdict}
+use Rattle.member.specs.declared.check.Check.{Check}
 use Rattle.member.specs.declared.member.Member.{Member}
 use Rattle.member.proofs.KeepsDemand3.{keeps_demand_3}
 use Rattle.worksheet.specs.Entries.{pass_or_fail, verdict_bytes, check_returns, check_leaves, HostKeepsDemand3}

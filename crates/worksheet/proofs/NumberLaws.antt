@@ -13,9 +13,9 @@ use lib.Ieee.Fits.{eq→eqb, down_pos}
 use lib.Ieee.Exact.{HasValue, odd_sign}
 use lib.Ieee.Nearest.{div_same}
 use borrow.Author.Tests.{lt-ltb, le-ltb, le-leb, lt-leb, eq-eqb, ne_eqb}
+use Rattle.std.specs.Prelude.{Some, Ok, Err}
 use Rattle.worksheet.specs.Number.{read_fraction, read_number}
-use Rattle.cells.specs.declared.row.Cell.TheVariants.{Whole}
-use Rattle.worksheet.specs.declared.host_cell.Reading.TheVariants.{Read, Unreadable}
+use Rattle.worksheet.specs.declared.host_cell.ReadError.TheVariants.{NotWhole}
 
 -- ---- equal fractions read the same
 
@@ -56,19 +56,19 @@ value_reads (fin t m e) s a c C h =
 
 -- ---- which fractions read
 
-pub not_whole : (s : Bool) (a c : ℕ) → (a % c ≡ 0 → ⊥) → read_fraction s a c ≡ Unreadable
+pub not_whole : (s : Bool) (a c : ℕ) → (a % c ≡ 0 → ⊥) → read_fraction s a c ≡ (Err NotWhole)
 unfolding read_fraction
 not_whole s a c h = rw (ne_eqb _ _ h)
 
-below_zero : (a c : ℕ) → (a ≡ 0 → ⊥) → read_fraction true a c ≡ Unreadable
+below_zero : (a c : ℕ) → (a ≡ 0 → ⊥) → read_fraction true a c ≡ (Err NotWhole)
 unfolding read_fraction
 below_zero a c h = rw (ne_eqb _ _ h, and-false)
 
-too_large : (s : Bool) (a c : ℕ) → 2 ^ 34 ≤ a / c → read_fraction s a c ≡ Unreadable
+too_large : (s : Bool) (a c : ℕ) → 2 ^ 34 ≤ a / c → read_fraction s a c ≡ (Err NotWhole)
 unfolding read_fraction
 too_large s a c h = rw (le-ltb _ _ h, and-false)
 
-pub is_whole : (a c : ℕ) → a % c ≡ 0 → a / c < 2 ^ 34 → read_fraction false a c ≡ Read (Whole (a / c))
+pub is_whole : (a c : ℕ) → a % c ≡ 0 → a / c < 2 ^ 34 → read_fraction false a c ≡ Ok (Some (a / c))
 unfolding read_fraction
 is_whole a c h k = rw (eq-eqb _ _ h, lt-ltb _ _ k)
 
@@ -90,11 +90,11 @@ unfolding of_fields
 subnormal s t = value_reads (odd 53 s t 0 1074) s (t * 1) (2 ^ 1074) (pow_pos 1074) (odd_sign 53 s t 0 1074)
 
 -- a field of ones is an infinity or a NaN
-special : (s : Bool) (t : ℕ) → read_number (of_fields binary64 s 2047 t) ≡ Unreadable
+special : (s : Bool) (t : ℕ) → read_number (of_fields binary64 s 2047 t) ≡ (Err NotWhole)
 unfolding of_fields read_number
 special s t = by (eqb t 0)
   where
-    by : (b : Bool) → read_number (cond b (inf s) nan) ≡ Unreadable
+    by : (b : Bool) → read_number (cond b (inf s) nan) ≡ (Err NotWhole)
     by true = refl
     by false = refl
 
@@ -109,13 +109,13 @@ unfolding of_bits
 fields b s e p q =
     ap (λ (u : Bool). of_fields binary64 u (b % 2 ^ 63 / 2 ^ 52) (b % 2 ^ 52)) p ∙ ap (λ (n : ℕ). of_fields binary64 s n (b % 2 ^ 52)) q
 
-zeros : (s : Bool) → read_number (of_fields binary64 s 0 0) ≡ Read (Whole 0)
+zeros : (s : Bool) → read_number (of_fields binary64 s 0 0) ≡ Ok (Some 0)
 unfolding read_number of_fields read_fraction
 zeros true = refl
 zeros false = refl
 
 -- 0 and −0
-pub zero_bits : (b : ℕ) → b % 2 ^ 63 ≡ 0 → read_number (of_bits binary64 b) ≡ Read (Whole 0)
+pub zero_bits : (b : ℕ) → b % 2 ^ 63 ≡ 0 → read_number (of_bits binary64 b) ≡ Ok (Some 0)
 zero_bits b h =
     let t : b % 2 ^ 52 ≡ 0 = omega arith in
     let e : b % 2 ^ 63 / 2 ^ 52 ≡ 0 = omega arith in
@@ -124,12 +124,12 @@ zero_bits b h =
     ∙ zeros (leb (2 ^ 63) b)
 
 -- below 0
-pub negative_bits : (b : ℕ) → b < 2 ^ 64 → (b % 2 ^ 63 ≡ 0 → ⊥) → 2 ^ 63 ≤ b → read_number (of_bits binary64 b) ≡ Unreadable
+pub negative_bits : (b : ℕ) → b < 2 ^ 64 → (b % 2 ^ 63 ≡ 0 → ⊥) → 2 ^ 63 ≤ b → read_number (of_bits binary64 b) ≡ (Err NotWhole)
 negative_bits b B n h =
     ap read_number (fields b true (b % 2 ^ 63 / 2 ^ 52) (le-leb _ _ h) refl)
     ∙ by (b % 2 ^ 63 / 2 ^ 52) (b % 2 ^ 52) (omega arith) (λ p q. n (omega arith))
   where
-    by : (e t : ℕ) → e < 2048 → (e ≡ 0 → t ≡ 0 → ⊥) → read_number (of_fields binary64 true e t) ≡ Unreadable
+    by : (e t : ℕ) → e < 2048 → (e ≡ 0 → t ≡ 0 → ⊥) → read_number (of_fields binary64 true e t) ≡ (Err NotWhole)
     by zero t h n = subnormal true t ∙ below_zero (t * 1) (2 ^ 1074) (λ z. n refl (sym (mul-one t) ∙ z))
     by (suc x) t h n = elim (eq-or-lt_of_le (le_of_suc-le-suc h)) [
       | inl q ↦ ap (λ (n : ℕ). read_number (of_fields binary64 true n t)) q ∙ special true t
@@ -137,16 +137,16 @@ negative_bits b B n h =
     ]
 
 -- above 0 and below 1
-pub small_bits : (b : ℕ) → (b % 2 ^ 63 ≡ 0 → ⊥) → b < 2 ^ 63 → b / 2 ^ 52 < 1023 → read_number (of_bits binary64 b) ≡ Unreadable
+pub small_bits : (b : ℕ) → (b % 2 ^ 63 ≡ 0 → ⊥) → b < 2 ^ 63 → b / 2 ^ 52 < 1023 → read_number (of_bits binary64 b) ≡ (Err NotWhole)
 small_bits b n B h =
     let f : b % 2 ^ 63 / 2 ^ 52 ≡ b / 2 ^ 52 = omega arith in
     ap read_number (fields b false (b / 2 ^ 52) (lt-leb _ _ B) f) ∙ by (b / 2 ^ 52) (b % 2 ^ 52) (omega arith) h (λ p q. n (omega arith))
   where
     -- a numerator above 0 and below the denominator
-    part : (a : ℕ) → a < 2 ^ 1074 → (a ≡ 0 → ⊥) → read_fraction false a (2 ^ 1074) ≡ Unreadable
+    part : (a : ℕ) → a < 2 ^ 1074 → (a ≡ 0 → ⊥) → read_fraction false a (2 ^ 1074) ≡ (Err NotWhole)
     part a l n = not_whole false a (2 ^ 1074) (λ z. n (sym (mod-eq_of_lt l) ∙ z))
 
-    by : (e t : ℕ) → t < 2 ^ 52 → e < 1023 → (e ≡ 0 → t ≡ 0 → ⊥) → read_number (of_fields binary64 false e t) ≡ Unreadable
+    by : (e t : ℕ) → t < 2 ^ 52 → e < 1023 → (e ≡ 0 → t ≡ 0 → ⊥) → read_number (of_fields binary64 false e t) ≡ (Err NotWhole)
     by zero t H h n =
         subnormal false t
         ∙ part (t * 1) (lt_of_lt_of_le (subst (λ (x : ℕ). x < 2 ^ 52) (sym (mul-one t)) H) (pow_mono {i = 52} {j = 1074} (omega arith)))
@@ -158,12 +158,12 @@ small_bits b n B h =
         (not_zero t (suc x - 1))
 
 -- 2 ^ 34 or more, or no number
-pub large_bits : (b : ℕ) → b < 2 ^ 63 → 1056 < b / 2 ^ 52 → read_number (of_bits binary64 b) ≡ Unreadable
+pub large_bits : (b : ℕ) → b < 2 ^ 63 → 1056 < b / 2 ^ 52 → read_number (of_bits binary64 b) ≡ (Err NotWhole)
 large_bits b B h =
     let f : b % 2 ^ 63 / 2 ^ 52 ≡ b / 2 ^ 52 = omega arith in
     ap read_number (fields b false (b / 2 ^ 52) (lt-leb _ _ B) f) ∙ by (b / 2 ^ 52) (b % 2 ^ 52) (omega arith) h
   where
-    by : (e t : ℕ) → e < 2048 → 1056 < e → read_number (of_fields binary64 false e t) ≡ Unreadable
+    by : (e t : ℕ) → e < 2048 → 1056 < e → read_number (of_fields binary64 false e t) ≡ (Err NotWhole)
     by e t E h = elim (eq-or-lt_of_le (le_of_suc-le-suc E)) [
       | inl q ↦ ap (λ (n : ℕ). read_number (of_fields binary64 false n t)) q ∙ special false t
       | inr l ↦

@@ -4,21 +4,20 @@ use Prim.Native.Nat.{ℕ}
 use native.Mathlib.Omega.{arith}
 use mathlib.Core.Logic.{◌⊎◌, inl, inr, ◌↔◌}
 use mathlib.Core.Path.{◌≡◌}
-use Rattle.cells.specs.declared.row.Cell.TheVariants.{Blank, Whole}
+use Rattle.std.specs.Prelude.{None, Some, Ok, Err}
 use Rattle.worksheet.specs.OwnCell.{own_number}
-use Rattle.worksheet.specs.declared.host_cell.Reading.{Reading}
-use Rattle.worksheet.specs.declared.host_cell.Reading.TheVariants.{Read, Unreadable}
-use Rattle.worksheet.specs.declared.own_cell.OwnNumber.TheVariants.{Given, Missing}
+use Rattle.worksheet.specs.Number.{Reading}
+use Rattle.worksheet.specs.declared.host_cell.ReadError.TheVariants.{NotWhole}
 
 -- blank or unreadable
 abbrev pub HoldsNone : Reading → Type 0
-HoldsNone reading = (reading ≡ Read Blank) ⊎ (reading ≡ Unreadable)
+HoldsNone reading = (reading ≡ Ok None) ⊎ (reading ≡ (Err NotWhole))
 
-pub own_given : (reading : Reading) (number : ℕ) → own_number reading ≡ Given number ↔ reading ≡ Read (Whole number)
-own_given (Read (Whole n)) number = (λ e. cc, λ e. cc)
-own_given (Read Blank) number = (λ e. absurd (let z : ◌≡◌ {A = ℕ} 0 1 = cc in omega arith), λ e. absurd (let z : ◌≡◌ {A = ℕ} 0 1 = cc in omega arith))
-own_given Unreadable number = (λ e. absurd (let z : ◌≡◌ {A = ℕ} 0 1 = cc in omega arith), λ e. absurd (let z : ◌≡◌ {A = ℕ} 0 1 = cc in omega arith))
+pub own_given : (reading : Reading) (number : ℕ) → own_number reading ≡ Some number ↔ reading ≡ Ok (Some number)
+own_given (Ok (Some n)) number = (λ e. cc, λ e. cc)
+own_given (Ok None) number = (λ e. absurd (let z : ◌≡◌ {A = ℕ} 0 1 = cc in omega arith), λ e. absurd (let z : ◌≡◌ {A = ℕ} 0 1 = cc in omega arith))
+own_given (Err NotWhole) number = (λ e. absurd (let z : ◌≡◌ {A = ℕ} 0 1 = cc in omega arith), λ e. absurd (let z : ◌≡◌ {A = ℕ} 0 1 = cc in omega arith))
 
-pub own_missing : (reading : Reading) → HoldsNone reading → own_number reading ≡ Missing
+pub own_missing : (reading : Reading) → HoldsNone reading → own_number reading ≡ None
 own_missing reading (inl e) = rw e
 own_missing reading (inr e) = rw e

@@ -6,15 +6,13 @@ use mathlib.Core.List.{List, [], ◌∷◌}
 use mathlib.Core.Path.{◌≡◌, refl, subst}
 use lib.Dec.{eqb}
 use lib.ListN.{length, length-map}
+use Rattle.std.specs.Prelude.{None, Some, Ok, Err}
 use Rattle.worksheet.specs.HostRow.{host_cell_bytes, host_cells_at, read_host_row}
-use Rattle.worksheet.specs.Number.{read_number}
+use Rattle.worksheet.specs.Number.{read_number, Reading}
 use Rattle.worksheet.specs.Reading.{read_cell, cell_read, lowest_unreadable, read_cells}
 use Rattle.cells.specs.Refusal.{Result, gives, refuses}
-use Rattle.cells.specs.Row.{cell_count, value_bits}
-use Rattle.worksheet.specs.declared.host_cell.Reading.{Reading}
-use Rattle.worksheet.specs.declared.host_cell.Reading.TheVariants.{Read, Unreadable}
-use Rattle.cells.specs.declared.row.Cell.{Cell}
-use Rattle.cells.specs.declared.row.Cell.TheVariants.{Blank, Whole}
+use Rattle.cells.specs.Row.{cell_count, value_bits, Cell}
+use Rattle.worksheet.specs.declared.host_cell.ReadError.TheVariants.{NotWhole}
 use Rattle.worksheet.specs.declared.host_cell.HostCell.{HostCell}
 use Rattle.worksheet.specs.declared.host_cell.HostCell.TheVariants.{Blank as Empty, Number}
 use Rattle.worksheet.proofs.HostRowLaws.{host_cells_length}
@@ -23,8 +21,8 @@ use Rattle.worksheet.proofs.ReadingMeaning.{reads_iff}
 
 -- a cell whose value has 34 bits
 abbrev pub Narrow : Cell → Type 0
-Narrow Blank = Unit
-Narrow (Whole value) = value < 2 ^ value_bits
+Narrow None = Unit
+Narrow (Some value) = value < 2 ^ value_bits
 
 -- cells all of which are so
 abbrev pub AllNarrow : List Cell → Type 0
@@ -45,9 +43,9 @@ cell_narrow Empty = tt
 cell_narrow (Number x) = by (read_number x) refl
   where
     by : (r : Reading) → read_number x ≡ r → Narrow (cell_read r)
-    by (Read Blank) e = tt
-    by (Read (Whole n)) e = ((reads_iff x n).0 e).0
-    by Unreadable e = tt
+    by (Ok None) e = tt
+    by (Ok (Some n)) e = ((reads_iff x n).0 e).0
+    by (Err NotWhole) e = tt
 
 all_narrow : (cells : List HostCell) → AllNarrow (as_read cells)
 all_narrow [] = tt

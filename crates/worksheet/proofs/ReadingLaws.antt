@@ -6,7 +6,7 @@ use Prim.Native.Nat.{ℕ, ◌+◌}
 use native.Mathlib.Omega.{arith}
 use borrow.Author.Tests.{ne_eqb}
 use Rattle.cells.specs.Refusal.{gives, refuses}
-use Rattle.cells.specs.declared.row.Cell.{Cell}
+use Rattle.cells.specs.Row.{Cell}
 use Rattle.worksheet.specs.Reading.{read_cell, cell_read, lowest_unreadable, read_cells}
 use Rattle.worksheet.specs.declared.host_cell.HostCell.{HostCell}
 

@@ -8,6 +8,7 @@ use native.Mathlib.Omega.{arith}
 use lib.Dec.{eqb, leb, lit≤}
 use lib.ListN.{length, get_or}
 use borrow.Author.Tests.{lt-ltb}
+use Rattle.std.specs.Prelude.{None, Some, Option}
 use Rattle.rounding.specs.Range.{In}
 use Rattle.rounding.proofs.Ranges.{in_wide}
 use Rattle.worksheet.specs.HostAnswer.{floats_result}
@@ -16,9 +17,7 @@ use Rattle.cells.specs.Lowest.{lowest}
 use Rattle.worksheet.specs.Reading.{read_cell, is_unreadable, lowest_unreadable, read_cells}
 use Rattle.worksheet.specs.declared.host_cell.HostCell.{HostCell}
 use Rattle.cells.specs.Refusal.{Result, gives, refuses, and_then}
-use Rattle.cells.specs.Row.{cell_count, value_bits}
-use Rattle.cells.specs.declared.row.Cell.{Cell}
-use Rattle.cells.specs.declared.row.Cell.TheVariants.{Blank, Whole}
+use Rattle.cells.specs.Row.{cell_count, value_bits, Cell}
 use Rattle.cells.proofs.LowestLaws.{lowest_most}
 use Rattle.worksheet.proofs.HostRowLaws.{host_cells_length}
 use Rattle.worksheet.proofs.ReadingLaws.{as_read}
@@ -29,8 +28,6 @@ use Rattle.member.specs.Member.{values_of, member_of}
 use Rattle.member.specs.Verdict.{judged, check_row}
 use Rattle.member.specs.declared.member.Member.{Member}
 use Rattle.member.specs.declared.kind.Kind.{Kind}
-use Rattle.member.specs.declared.kind.KindCode.{KindCode}
-use Rattle.member.specs.declared.kind.KindCode.TheVariants.{Known, Unknown}
 use Rattle.member.specs.declared.verdict.Verdict.{Verdict}
 use Rattle.packed.specs.Packing.{packed, too_wide, lowest_wide, pack_result}
 use Rattle.worksheet.specs.Entries.{answered, host_check, host_pack}
@@ -75,15 +72,15 @@ module _ (cells : List Cell) (whole : length cells ≡ cell_count) where
       (eqb (lowest_cell (misfilled kind begun) cells) 0)
 
   pub accept_numbered : Numbered 2 4 (accept cells)
-  accept_numbered = by (get_or cells 0 Blank)
+  accept_numbered = by (get_or cells 0 None)
     where
-      by_code : (code : KindCode) → Numbered 2 4 (accept_code code cells)
-      by_code Unknown = (within 2 4 3 (omega arith) (omega arith), omega arith)
-      by_code (Known kind) = kind_numbered kind
+      by_code : (code : Option Kind) → Numbered 2 4 (accept_code code cells)
+      by_code None = (within 2 4 3 (omega arith) (omega arith), omega arith)
+      by_code (Some kind) = kind_numbered kind
 
       by : (first : Cell) → Numbered 2 4 (accept_first first cells)
-      by Blank = (within 2 4 2 (omega arith) (omega arith), omega arith)
-      by (Whole code) = by_code (kind_of code)
+      by None = (within 2 4 2 (omega arith) (omega arith), omega arith)
+      by (Some code) = by_code (kind_of code)
 
 -- the test of the answer's length refuses with 5, for any number of floats
 pub floats_numbered : {A : Type 0} (count room : ℕ) (value : A) → Numbered 5 5 (and_then (floats_result count room) (λ (given : Unit {0}). gives value))
@@ -122,8 +119,8 @@ check_numbered row room =
 narrow_none : (n : ℕ) (cells : List Cell) → AllNarrow cells → lowest (λ (n : ℕ) (cell : Cell). too_wide cell) n cells ≡ 0
 unfolding lowest
 narrow_none n [] narrow = refl
-narrow_none n (Blank ∷ cells) narrow = narrow_none (n + 1) cells narrow.1
-narrow_none n (Whole value ∷ cells) narrow = rw (lt-ltb value (2 ^ value_bits) narrow.0) (narrow_none (n + 1) cells narrow.1)
+narrow_none n (None ∷ cells) narrow = narrow_none (n + 1) cells narrow.1
+narrow_none n (Some value ∷ cells) narrow = rw (lt-ltb value (2 ^ value_bits) narrow.0) (narrow_none (n + 1) cells narrow.1)
 
 pub none_wide : (bytes : List ℕ) (cells : List Cell) → read_host_row bytes ≡ gives cells → lowest_wide cells ≡ 0
 none_wide bytes cells e = narrow_none 1 cells (row_as_read bytes cells e).narrow

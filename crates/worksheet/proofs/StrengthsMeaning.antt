@@ -13,7 +13,7 @@ use lib.ListN.{length, replicate}
 use Rattle.cells.specs.HostBytes.{float_at}
 use Rattle.cells.specs.Lowest.{lowest}
 use Rattle.cells.specs.Refusal.{Result, gives, refuses, and_then, told}
-use Rattle.cells.specs.declared.row.Cell.{Cell}
+use Rattle.cells.specs.Row.{Cell}
 use Rattle.sp64.specs.Strength.{MaterialRanges, design_strength, strength_remainder}
 use Rattle.sp64.specs.declared.strength.Material.{Material}
 use Rattle.sp64.specs.declared.tables.Stress.{Stress}

@@ -4,11 +4,11 @@ use Rattle.std.specs.Prelude.{ℕ, cond, List, ◌≡◌, length}
 use Rattle.worksheet.specs.HostAnswer.{host_answer, answer_bytes, answer_room_result}
 use Rattle.worksheet.specs.HostRow.{read_host_row}
 use Rattle.cells.specs.Refusal.{Result, gives, and_then, leaves, told}
-use Rattle.cells.specs.declared.row.Cell.{Cell}
+use Rattle.cells.specs.Row.{Cell}
 use Rattle.member.specs.Acceptance.{accept}
-use Rattle.member.specs.Checks.{Check}
 use Rattle.member.specs.Demand3.{Demand3}
 use Rattle.member.specs.Verdict.{check_row}
+use Rattle.member.specs.declared.check.Check.{Check}
 use Rattle.member.specs.declared.member.Member.{Member}
 use Rattle.member.specs.declared.verdict.Verdict.{Verdict}
 use Rattle.packed.specs.Packing.{pack_result, pack_buffer}

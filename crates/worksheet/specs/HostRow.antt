@@ -5,8 +5,7 @@ use Rattle.std.specs.Float.{nan}
 use Rattle.cells.specs.HostBytes.{float_at}
 use Rattle.worksheet.specs.Reading.{read_cells}
 use Rattle.cells.specs.Refusal.{Result, refuses}
-use Rattle.cells.specs.Row.{cell_count}
-use Rattle.cells.specs.declared.row.Cell.{Cell}
+use Rattle.cells.specs.Row.{cell_count, Cell}
 use Rattle.worksheet.specs.declared.host_cell.HostCell.{HostCell}
 use Rattle.worksheet.specs.declared.host_cell.HostCell.TheVariants.{Blank, Number}
 

@@ -1,8 +1,7 @@
 -- Request 2: a row worked by hand, each of whose four strengths drops something: its cells, its bytes as a host hands them over, and the numbers that it gets.
 -- Assumes nothing.
 use Rattle.std.specs.Prelude.{ℕ, List, [], ◌∷◌}
-use Rattle.cells.specs.Row.{cell_count, blanks, fill_from}
-use Rattle.cells.specs.declared.row.Cell.{Cell}
+use Rattle.cells.specs.Row.{cell_count, blanks, fill_from, Cell}
 
 -- request 2, worked: a beam of K45 (1) in regime Ж (7) at 18 percent moisture, with an office factor of 0.917; 45 × 240 mm, M and Q in cells 9 and 10
 abbrev pub strengths_cells : List Cell

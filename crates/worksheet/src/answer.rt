@@ -1,6 +1,6 @@
 // The answer of a check as the host gets it.
 
-// Utilisation, count and check number, in this order.
+// Utilisation, count and check number, in this order: document 01 names this struct of three floats.
 #[derive(Clone, Copy)]
 pub struct HostAnswer {
     pub utilisation: f64,

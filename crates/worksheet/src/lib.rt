@@ -3,4 +3,3 @@
 
 pub mod answer;
 pub mod host_cell;
-pub mod own_cell;
