@@ -1,14 +1,17 @@
 // Slenderness, checks 2 and 3.
 ghost use Rattle.std.specs.Prelude.{◌≡◌};
 ghost use Rattle.sp64.specs.Ranges.{InLimit};
-ghost use Rattle.sp64.specs.Slenderness.{StrutRanges, slenderness_holds};
+ghost use Rattle.sp64.specs.Slenderness.{slenderness_holds};
 
-use sp64::strut::Strut;
+use crate::strut::KnownStrut;
 
-// Whether a strut is within a limit of Table 16.
-pub fn slenderness_holds(limit: u64, strut: Strut) -> bool
-    requires { InLimit limit × StrutRanges strut }
-    ensures { result ≡ slenderness_holds limit strut }
-{
-    12 * (strut.length * strut.length) <= limit * limit * (strut.side * strut.side)
+impl KnownStrut {
+    // Whether the strut is within a limit of Table 16.
+    pub fn slenderness_holds(self, limit: u64) -> bool
+        requires { InLimit limit }
+        ensures { result ≡ slenderness_holds limit self.strut }
+    {
+        let strut = self.strut;
+        12 * (strut.length * strut.length) <= limit * limit * (strut.side * strut.side)
+    }
 }

@@ -1,11 +1,20 @@
 // A member as a strut.
 ghost use Rattle.std.specs.Prelude.{◌≡◌};
+ghost use Rattle.sp64.specs.Slenderness.{StrutRanges};
 
 use sp64::strut::Strut;
 
-// The strut of an effective length and of the side across which the member buckles over it.
+// The strut of an effective length and of the side across which the member buckles over it. A literal in its place would take the two numbers in either order,
+// and no contract of its own would say which is which.
 pub fn strut(length: u64, side: u64) -> Strut
     ensures { result ≡ record { length = length; side = side } }
 {
     Strut { length, side }
+}
+
+// A strut in its ranges; a struct of its own, as `KnownMaterial` (`strength`) says.
+#[derive(Clone, Copy)]
+pub struct KnownStrut {
+    pub strut: Strut,
+    pub ghost ranges: { StrutRanges strut },
 }

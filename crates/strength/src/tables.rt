@@ -1,4 +1,5 @@
-// The tables: strengths by grade and stress, duration and moisture factors, slenderness limits. An unknown code gives 0.
+// The tables: strengths by grade and stress, duration and moisture factors, slenderness limits. Each is a `match` on a local number, as document 01 asks (decision 17),
+// so the codes are numbers and no enums. An unknown code gives 0, as the definitions' tables do: no listed figure is 0 (decision 1).
 ghost use Rattle.std.specs.Prelude.{◌≡◌};
 ghost use Rattle.sp64.specs.Tables.{look_up, grades, table_strength, duration_factor, moisture_factor, slenderness_limit};
 

@@ -2,15 +2,17 @@
 -- Assumes nothing.
 use Rattle.std.proofs.Common.{rules, arith, lit<}
 use Rattle.rounding.proofs.Ranges.{in_lit, in_mul, in_div}
-use Rattle.section.proofs.capacity.bending_capacity.Goals as goal
+use Rattle.section.proofs.capacity.CrossSection.bending_capacity.Goals as goal
 
 pub overflow_mul-result-3 : goal.overflow_mul-result-3
 overflow_mul-result-3 c =
-    omega (arith, in_mul (in_mul c.requires.0.width (in_mul c.requires.0.height c.requires.0.height)) c.requires.1)
+    let sides = c.args.self.ranges in
+    omega (arith, in_mul (in_mul sides.width (in_mul sides.height sides.height)) c.requires)
 
 pub returns : goal.returns
 returns c =
+    let sides = c.args.self.ranges in
     record {
       exact = search rules;
-      range = in_div (lit< tt) (in_mul (in_mul c.requires.0.width (in_mul c.requires.0.height c.requires.0.height)) c.requires.1) (in_lit 6000);
+      range = in_div (lit< tt) (in_mul (in_mul sides.width (in_mul sides.height sides.height)) c.requires) (in_lit 6000);
     }
