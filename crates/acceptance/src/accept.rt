@@ -1,52 +1,39 @@
 // Accept a row: the member that it describes, or why it is refused.
 ghost use Rattle.std.specs.Prelude.{◌≡◌};
+ghost use Rattle.cells.specs.Refusal.{by_number};
 ghost use Rattle.cells.specs.Row.{cells_of};
-ghost use Rattle.member.specs.Acceptance.{accept_kind, accept, accepted_result};
+ghost use Rattle.member.specs.Acceptance.{accept_kind, accept};
 
 use crate::naming::{member_of, values_of};
 use crate::searches::{is_begun, lowest_misfilled, lowest_outside, lowest_unknown};
 use cellrules::kind::kind_of;
 use cells::refusal::Refusal;
-use cells::row::{Cell, Row};
-use member::acceptance::Accepted;
-use member::kind::{Kind, KindCode};
+use cells::row::Row;
+use member::kind::Kind;
+use member::member::Member;
 
-// Refusals 2, 3 and 4 of a row of a known kind, otherwise the member.
-fn accept_kind(kind: Kind, row: Row) -> Accepted
-    ensures { accepted_result result ≡ accept_kind kind (cells_of row) }
+// Refusals 2, 3 and 4 of a row of a known kind, otherwise the member. Three tests and no `?`: none is the good case here, so that there is nothing to hand on.
+fn accept_kind(kind: Kind, row: Row) -> Result<Member, Refusal>
+    ensures { by_number result ≡ accept_kind kind (cells_of row) }
 {
     let begun = is_begun(kind, row);
-    let misfilled = lowest_misfilled(kind, begun, row);
-    if misfilled != 0 {
-        return Accepted::Refused(Refusal::Misfilled(misfilled));
+    if let Some(cell) = lowest_misfilled(kind, begun, row) {
+        return Err(Refusal::Misfilled(cell));
     }
-    let unknown = lowest_unknown(kind, row);
-    if unknown != 0 {
-        return Accepted::Refused(Refusal::UnknownCode(unknown));
+    if let Some(cell) = lowest_unknown(kind, row) {
+        return Err(Refusal::UnknownCode(cell));
     }
-    let outside = lowest_outside(row);
-    if outside != 0 {
-        return Accepted::Refused(Refusal::OutOfRange(outside));
+    if let Some(cell) = lowest_outside(row) {
+        return Err(Refusal::OutOfRange(cell));
     }
-    let values = values_of(row);
-    Accepted::Member(member_of(kind, begun, values))
+    Ok(member_of(kind, begun, values_of(row)))
 }
 
 // "Check a row", its refusals 2, 3 and 4: the member that a row describes, or a refusal by number and cell.
-pub fn accept_row(row: Row) -> Accepted
-    ensures { accepted_result result ≡ accept (cells_of row) }
+pub fn accept_row(row: Row) -> Result<Member, Refusal>
+    ensures { by_number result ≡ accept (cells_of row) }
 {
-    let cells = row.cells;
-    let slot = cells[0];
-    let first = slot.cell;
-    match first {
-        Cell::Blank => Accepted::Refused(Refusal::Misfilled(1)),
-        Cell::Whole(code) => {
-            let known = kind_of(code);
-            match known {
-                KindCode::Unknown => Accepted::Refused(Refusal::UnknownCode(1)),
-                KindCode::Known(kind) => accept_kind(kind, row),
-            }
-        }
-    }
+    let code = row.cells[0].ok_or(Refusal::Misfilled(1))?;
+    let kind = kind_of(code).ok_or(Refusal::UnknownCode(1))?;
+    accept_kind(kind, row)
 }

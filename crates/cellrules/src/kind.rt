@@ -2,18 +2,18 @@
 ghost use Rattle.std.specs.Prelude.{◌≡◌};
 ghost use Rattle.member.specs.Kind.{kind_of};
 
-use member::kind::{Kind, KindCode};
+use member::kind::Kind;
 
-// The kind of a code.
-pub fn kind_of(code: u64) -> KindCode
+// The kind of a code, none where it is unknown. A function and no `TryFrom`: that trait and the kind are both other crates' own.
+pub fn kind_of(code: u64) -> Option<Kind>
     ensures { result ≡ kind_of code }
 {
     match code {
-        1 => KindCode::Known(Kind::Tension),
-        2 => KindCode::Known(Kind::Bending),
-        3 => KindCode::Known(Kind::Compression),
-        4 => KindCode::Known(Kind::CompressionBending),
-        5 => KindCode::Known(Kind::TensionBending),
-        _ => KindCode::Unknown,
+        1 => Some(Kind::Tension),
+        2 => Some(Kind::Bending),
+        3 => Some(Kind::Compression),
+        4 => Some(Kind::CompressionBending),
+        5 => Some(Kind::TensionBending),
+        _ => None,
     }
 }

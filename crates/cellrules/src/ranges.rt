@@ -1,66 +1,40 @@
 // The ranges of the cells.
-ghost use Rattle.std.specs.Prelude.{◌≡◌};
-ghost use Rattle.rounding.specs.Range.{In};
-ghost use Rattle.cells.specs.Row.{cell_count};
+ghost use Rattle.std.specs.Prelude.{◌≡◌, false};
+ghost use Rattle.std.specs.Range.{range_inclusive_start, range_inclusive_end, range_inclusive_exhausted};
 ghost use Rattle.member.specs.Cells.{least_of, greatest_of, in_range};
 
-// The least and the greatest value of a cell.
-#[derive(Clone, Copy)]
-struct Limits {
-    least: u64,
-    greatest: u64,
-}
+use std::ops::RangeInclusive;
 
-fn from_to(least: u64, greatest: u64) -> Limits
-    ensures { (result.least ≡ least) × (result.greatest ≡ greatest) }
-{
-    Limits { least, greatest }
-}
-
-// A code is of any size.
-fn any_code() -> Limits
-    ensures { (result.least ≡ 0) × (result.greatest ≡ 18446744073709551615) }
-{
-    from_to(0, 18_446_744_073_709_551_615)
-}
-
-// The range of cell n. A match and not an array, which would be built anew at every use.
-fn range_of(n: u32) -> Limits
-    requires { In 1 cell_count n }
-    ensures { (result.least ≡ least_of n) × (result.greatest ≡ greatest_of n) }
+// The range of cell n. A match and not an array, which would be built anew at every use. There is no cell 0 and none after 22: for them it gives what the definition does.
+fn range_of(n: u32) -> RangeInclusive<u64>
+    ensures least { range_inclusive_start result ≡ least_of n }
+    ensures greatest { range_inclusive_end result ≡ greatest_of n }
+    ensures fresh { range_inclusive_exhausted result ≡ false }
 {
     match n {
-        1 => any_code(),
-        2 => any_code(),
-        3 => any_code(),
-        4 => from_to(0, 60),
-        5 => from_to(500, 1000),
-        6 => from_to(20, 300),
-        7 => from_to(60, 2500),
-        8 => from_to(1, 100_000_000),
-        9 => from_to(1, 10_000_000_000),
-        10 => from_to(0, 100_000_000),
-        11 => from_to(100, 20_000),
-        12 => from_to(100, 20_000),
-        13 => any_code(),
-        14 => from_to(10, 300),
-        15 => from_to(6, 40),
-        16 => from_to(1, 20),
-        17 => from_to(1, 20_000),
-        18 => from_to(100, 5000),
-        19 => from_to(100, 5000),
-        20 => from_to(100, 5000),
-        21 => from_to(0, 5000),
-        22 => from_to(100, 5000),
-        _ => from_to(0, 0),
+        // A code is of any size.
+        0..=3 | 13 => 0..=u64::MAX,
+        4 => 0..=60,
+        5 => 500..=1000,
+        6 => 20..=300,
+        7 => 60..=2500,
+        8 => 1..=100_000_000,
+        9 => 1..=10_000_000_000,
+        10 => 0..=100_000_000,
+        11 | 12 => 100..=20_000,
+        14 => 10..=300,
+        15 => 6..=40,
+        16 => 1..=20,
+        17 => 1..=20_000,
+        18..=20 | 22 => 100..=5000,
+        21 => 0..=5000,
+        _ => 0..=0,
     }
 }
 
 // Whether the value in cell n is in its range.
 pub fn is_in_range(n: u32, value: u64) -> bool
-    requires { In 1 cell_count n }
     ensures { result ≡ in_range n value }
 {
-    let range = range_of(n);
-    (range.least <= value) & (value <= range.greatest)
+    range_of(n).contains(&value)
 }

@@ -1,20 +1,15 @@
--- `lowest_misfilled` meets its contract: the searches of its parts, one after another, are the search of the row.
+-- `lowest_misfilled` meets its contract: the searches of its parts, one after the other, are the search of the row.
 -- Assumes nothing.
-use Rattle.std.proofs.Common.{◌≡◌, length, rules, sym, ◌∙◌}
-use Rattle.cells.specs.Row.{cell_count, cells_of}
-use Rattle.cells.proofs.RowLaws.{length_cells}
+use Rattle.std.proofs.Common.{arith, rules, ◌∙◌}
+use Rattle.cells.specs.Row.{cell_count}
 use Rattle.member.specs.Acceptance.{misfilled}
-use Rattle.acceptance.proofs.SearchLaws.{part_passed, part_last}
+use Rattle.acceptance.proofs.SearchLaws.{whole_row, next_part, or_later}
 use Rattle.acceptance.proofs.searches.lowest_misfilled.Goals as goal
 
 pub returns : goal.returns
 returns c =
-    let whole : length (cells_of c.args.row) ≡ cell_count = length_cells c.args.row (search rules) in
-    let one = c.lowest_misfilled_in-first in
-    let two = c.lowest_misfilled_in in
-    sym (
-    one.ensures
-    ∙ part_passed one.result _ c.if-first-ne0.false
-    ∙ two.ensures
-    ∙ part_last (misfilled c.args.kind c.args.begun) (cells_of c.args.row) whole two.result
-    )
+    let test = misfilled c.args.kind c.args.begun in
+    next_part test c.args.row.cells (search rules) 0 13 cell_count _ _ (omega arith) (omega arith) (omega arith)
+    (c.lowest_in.ensures test (λ n cell answer e. search rules))
+    (or_later c.lowest_in.result _ c.or_else.result (λ later. search rules) c.or_else.ensures)
+    ∙ whole_row test c.args.row.cells (search rules)
