@@ -1,32 +1,28 @@
--- Laws of unpacking: cells read one after another into the slots of a row, and the answer after the last.
+-- Laws of unpacking: cells read one after another into a row, and the answer after the last.
 -- Assumes nothing.
-use mathlib.Core.Path.{◌≡◌, refl, sym, ap, ap₂, ◌∙◌, subst}
-use Prim.Native.Nat.{ℕ, zero, suc, ◌+◌, ◌-◌, ◌*◌, ◌/◌, ◌%◌, ◌^◌, ◌≤◌, ◌<◌}
+use mathlib.Core.Path.{◌≡◌, refl, sym, ap, ap₂, ◌∙◌}
+use Prim.Native.Nat.{ℕ, suc, ◌+◌, ◌-◌, ◌*◌, ◌/◌, ◌%◌, ◌^◌, ◌≤◌, ◌<◌}
 use native.Mathlib.Nat.{sub-zero, mod-eq_of_lt}
 use native.Mathlib.Numerals.{add-one}
 use native.Mathlib.Omega.{arith}
-use mathlib.Core.List.{List, [], ◌∷◌, ◌++◌, map, append-nil}
+use mathlib.Core.List.{List, [], ◌∷◌, ◌++◌, append-nil}
 use mathlib.Core.Bool.{Bool, true, false}
 use lib.ListN.{length, take, drop, set, replicate, length-append, length-drop}
 use lib.Seq.{set-append_seam, append_snoc, take_at}
-use lib.Pow.{shr_lt}
-use Rattle.cells.specs.Row.{cell_count, cells_of, blanks}
-use Rattle.cells.specs.Refusal.{Result, gives, refuses, refused_by, result_of, value_or}
+use Rattle.std.specs.Prelude.{None, Some, Result as Answer, Ok, Err, IfOk}
+use Rattle.cells.specs.Row.{cell_count, cells_of, blanks, Cell}
+use Rattle.cells.specs.Refusal.{Result, gives, refuses, by_number, map_given, value_or}
 use Rattle.cells.specs.declared.refusal.Refusal.{Refusal}
-use Rattle.cells.specs.declared.refusal.Outcome.TheVariants.{Done}
-use Rattle.cells.specs.declared.row.Cell.{Cell}
-use Rattle.cells.specs.declared.row.Cell.TheVariants.{Blank}
-use Rattle.cells.specs.declared.row.Slot.{Slot}
-use Rattle.packed.specs.Bits.{bits, number, bits_of}
+use Rattle.packed.specs.Bits.{Bytes, bits, number, bits_of}
+use Rattle.packed.specs.Packing.{packed}
 use Rattle.packed.specs.Unpacking.{before, parse, any_set, padding, ending, unpacked, filled_up, held}
-use Rattle.codec.specs.Answers.{refused_unpacking}
-use Rattle.codec.specs.Place.{start, left, left_at, Reached, Reads}
+use Rattle.codec.specs.Place.{on_hand, Taken, left, Reached, Reads}
 use Rattle.codec.specs.declared.cursor.Cursor.{Cursor}
-use Rattle.codec.specs.declared.reader.NextCell.TheVariants.{Read, Ends}
 use Rattle.codec.specs.declared.unpack.UnpackedRow.{UnpackedRow}
-use Rattle.packed.proofs.BitLaws.{bits_apart, bits_zero, length_bits, length-bits_of, number_bits, number_zeros, number_nil}
+use Rattle.packed.proofs.BitLaws.{bits_zero, length_bits, length-bits_of, number_bits, number_zeros, number_nil}
 use Rattle.packed.proofs.ParseLaws.{none_set, all_zero}
-use Rattle.packed.proofs.RoundTrip.{IfUnpacked, unpack_tells}
+use Rattle.codec.proofs.ReaderLaws.{left_taken}
+use Rattle.packed.proofs.RoundTrip.{unpack_gives}
 
 -- ---- cells before what a later parse gives
 
@@ -56,75 +52,63 @@ before_all-refuses (first ∷ cells) number cell = ap (before first) (before_all
 
 -- ---- cells in a row, blank past their end
 
--- a slot that is stored is a cell that is stored
-map_set : (slots : List Slot) (i : ℕ) (slot : Slot)
-    → map (λ (s : Slot). s.cell) (set slots i slot) ≡ set (map (λ (s : Slot). s.cell) slots) i slot.cell
-map_set [] i slot = refl
-map_set (first ∷ slots) zero slot = refl
-map_set (first ∷ slots) (suc i) slot = ap (λ (l : List Cell). first.cell ∷ l) (map_set slots i slot)
-
 -- a cell stored after them makes them one longer
 filled_next : (cells : List Cell) (cell : Cell) → length cells < cell_count → set (filled_up cells) (length cells) cell ≡ filled_up (cells ++ (cell ∷ []))
 filled_next cells cell h =
     let rest : List Cell = blanks (cell_count - length (cells ++ (cell ∷ []))) in
     let less : cell_count - length cells ≡ suc (cell_count - length (cells ++ (cell ∷ []))) = rw (length-append cells (cell ∷ [])) (omega arith) in
-    rw less (set-append_seam cells Blank rest cell ∙ sym (append_snoc cells cell rest))
+    rw less (set-append_seam cells None rest cell ∙ sym (append_snoc cells cell rest))
 
 -- ---- what has been read after i cells
 
--- the slots hold these i cells and then blanks, and a parse from the start is these cells before a parse from the place on
-pub record ReadSoFar (bytes : List ℕ) (n i : ℕ) (slots : List Slot) (place : Cursor) : Type 0 where
-  pub most : i ≤ n
+-- the row holds these i cells and then blanks, and a parse from the start is these cells before a parse from the place on
+pub record ReadSoFar (bytes : List ℕ) (n i : ℕ) (row : List Cell) (place : Cursor) : Type 0 where
   pub cells : List Cell
   pub long : length cells ≡ i
-  pub stored : cells_of (record { cells = slots }) ≡ filled_up cells
+  pub stored : row ≡ filled_up cells
   pub reached : Reached bytes place
-  pub parsed : parse n 1 (bits_of bytes) ≡ before_all cells (parse (n - i) (suc i) (left_at bytes place))
+  pub parsed : parse n 1 (bits_of bytes) ≡ before_all cells (parse (n - i) (suc i) (left bytes place))
 
 -- before the first cell
-pub none_yet : (bytes : List ℕ) (n : ℕ) → ReadSoFar bytes n 0 (replicate cell_count (record { cell = Blank })) start
-unfolding before_all left bits
-none_yet bytes n =
+pub none_yet : (bytes : List ℕ) (n : ℕ) (place : Cursor) → place.at ≡ 0 → place.count ≡ 0 → ReadSoFar bytes n 0 (blanks cell_count) place
+unfolding before_all bits
+none_yet bytes n place at count =
     record {
-      most = omega arith;
       cells = [];
       long = refl;
       stored = refl;
-      reached = record { low = omega arith; most = omega arith; inside = omega arith; read = omega arith };
-      parsed = rw sub-zero;
+      reached = record { inside = omega arith; read = omega arith };
+      parsed = rw (at, count, sub-zero);
     }
 
-module _ {bytes : List ℕ} {n i : ℕ} {slots : List Slot} {place : Cursor} (so : ReadSoFar bytes n i slots place) (h : i < n) where
+module _ {bytes : List ℕ} {n i : ℕ} {row : List Cell} {place : Cursor} (so : ReadSoFar bytes n i row place) (h : i < n) where
   -- what is parsed from the start goes on from here
-  from_here : parse n 1 (bits_of bytes) ≡ before_all so.cells (parse (suc (n - (i + 1))) (suc i) (left_at bytes place))
+  from_here : parse n 1 (bits_of bytes) ≡ before_all so.cells (parse (suc (n - (i + 1))) (suc i) (left bytes place))
   from_here =
       let e : n - i ≡ suc (n - (i + 1)) = omega arith in
-      so.parsed ∙ ap (λ (m : ℕ). before_all so.cells (parse m (suc i) (left_at bytes place))) e
+      so.parsed ∙ ap (λ (m : ℕ). before_all so.cells (parse m (suc i) (left bytes place))) e
 
   -- one cell more
-  pub read_more : n ≤ cell_count → (cell : Cell) (to : Cursor) → Reads bytes place (Read cell to)
-      → ReadSoFar bytes n (i + 1) (set slots i (record { cell = cell })) to
+  pub read_more : n ≤ cell_count → (cell : Cell) (to : Cursor) → Reads bytes place to (Some cell) → ReadSoFar bytes n (i + 1) (set row i cell) to
   read_more small cell to reads =
       record {
-        most = omega arith;
         cells = so.cells ++ (cell ∷ []);
         long = length-append so.cells (cell ∷ []) ∙ ap (λ (k : ℕ). k + 1) so.long;
         stored =
-            map_set slots i (record { cell = cell })
-            ∙ ap₂ (λ (l : List Cell) (k : ℕ). set l k cell) so.stored (sym so.long)
+            ap₂ (λ (l : List Cell) (k : ℕ). set l k cell) so.stored (sym so.long)
             ∙ filled_next so.cells cell (omega (arith, so.long));
         reached = reads.1;
         parsed =
             from_here
             ∙ ap (before_all so.cells)
-            (reads.0 (n - (i + 1)) (suc i) ∙ ap (λ (k : ℕ). before cell (parse (n - (i + 1)) (suc k) (left_at bytes to))) (sym (add-one i)))
-            ∙ sym (before_all-snoc so.cells cell (parse (n - (i + 1)) (suc (i + 1)) (left_at bytes to)));
+            (reads.0 (n - (i + 1)) (suc i) ∙ ap (λ (k : ℕ). before cell (parse (n - (i + 1)) (suc k) (left bytes to))) (sym (add-one i)))
+            ∙ sym (before_all-snoc so.cells cell (parse (n - (i + 1)) (suc (i + 1)) (left bytes to)));
       }
 
   -- the input ends before cell i + 1 does
-  pub cut_off : Reads bytes place Ends → unpacked n bytes ≡ refuses 6 (i + 1)
+  pub cut_off : (to : Cursor) → Reads bytes place to None → unpacked n bytes ≡ refuses 6 (i + 1)
   unfolding unpacked ending
-  cut_off reads =
+  cut_off to reads =
       ap (ending (length bytes))
       (from_here ∙ ap (before_all so.cells) (reads (n - (i + 1)) (suc i)) ∙ before_all-refuses so.cells 6 (suc i))
       ∙ ap (refuses 6) (sym (add-one i))
@@ -143,78 +127,68 @@ set_bit k v h some = by (any_set (bits k v)) refl
         sym (mod-eq_of_lt h) ∙ sym (number_bits k v []) ∙ ap (number k) (append-nil (bits k v) ∙ zeros) ∙ number_zeros k k [] ∙ number_nil k in
         absurd (some none)
 
-module _ {bytes : List ℕ} {n i : ℕ} {slots : List Slot} {place : Cursor} (so : ReadSoFar bytes n i slots place) (h : n ≤ i) where
+-- after all cells, and with the bits on hand before the next whole byte taken off
+module _ {bytes : List ℕ} {n i : ℕ} {row : List Cell} {place last : Cursor} {digits : ℕ} (so : ReadSoFar bytes n i row place) (end : i ≡ n)
+    (t : Taken place last (place.count % 8) digits) where
   -- all cells are read
-  all_read : parse n 1 (bits_of bytes) ≡ gives (so.cells, left_at bytes place)
+  all_read : parse n 1 (bits_of bytes) ≡ gives (so.cells, left bytes place)
   unfolding parse
   all_read =
       let e : n - i ≡ 0 = omega arith in
       so.parsed
-      ∙ ap (λ (m : ℕ). before_all so.cells (parse m (suc i) (left_at bytes place))) e
-      ∙ before_all-gives so.cells (left_at bytes place)
+      ∙ ap (λ (m : ℕ). before_all so.cells (parse m (suc i) (left bytes place))) e
+      ∙ before_all-gives so.cells (left bytes place)
 
   -- so many bits are left
-  rest_length : length (left_at bytes place) ≡ place.count + (length bytes - place.at) * 8
-  unfolding left
+  rest_length : length (left bytes place) ≡ place.count + (length bytes - place.at) * 8
   rest_length =
-      length-append (bits place.count place.waiting) (bits_of (drop place.at bytes))
+      length-append (on_hand place) (bits_of (drop place.at bytes))
       ∙ ap₂ (λ (a b : ℕ). a + b)
       (length_bits place.count place.waiting)
       (length-bits_of (drop place.at bytes) ∙ ap (λ (k : ℕ). k * 8) (length-drop place.at bytes))
 
-  -- the padding is what stands on hand above the whole bytes
-  padding_bits : padding (left_at bytes place) ≡ bits (place.count % 8) (place.waiting / 2 ^ (place.count / 8 * 8))
-  unfolding left
+  -- the padding is what was taken off
+  padding_bits : padding (left bytes place) ≡ bits (place.count % 8) digits
   padding_bits =
-      let whole : ℕ = place.count / 8 * 8 in
-      let part : ℕ = place.count % 8 in
-      let later : List Bool = bits_of (drop place.at bytes) in
-      let e : place.count ≡ part + whole = omega arith in
-      let l : length (left_at bytes place) % 8 ≡ part = omega (arith, rest_length) in
-      ap₂ (λ (k : ℕ) (bs : List Bool). take k bs) l (bits_apart place.count part whole place.waiting later e)
-      ∙ take_at (bits part (place.waiting / 2 ^ whole)) _ part (length_bits part (place.waiting / 2 ^ whole))
+      let part : length (left bytes place) % 8 ≡ place.count % 8 = omega (arith, rest_length) in
+      ap₂ (λ (k : ℕ) (bs : List Bool). take k bs) part (left_taken bytes t)
+      ∙ take_at (bits (place.count % 8) digits) (left bytes last) (place.count % 8) (length_bits (place.count % 8) digits)
 
   -- a padding bit is 1
-  pub bad_padding : (place.waiting / 2 ^ (place.count / 8 * 8) ≡ 0 → ⊥) → unpacked n bytes ≡ refuses 7 0
+  pub bad_padding : (digits ≡ 0 → ⊥) → unpacked n bytes ≡ refuses 7 0
   unfolding unpacked ending
-  bad_padding some =
-      let e : place.count ≡ place.count % 8 + place.count / 8 * 8 = omega arith in
-      let small = shr_lt (place.count % 8) (place.count / 8 * 8) (subst (λ (k : ℕ). place.waiting < 2 ^ k) e so.reached.low) in
-      rw (all_read, padding_bits, set_bit (place.count % 8) (place.waiting / 2 ^ (place.count / 8 * 8)) small some)
+  bad_padding some = rw (all_read, padding_bits, set_bit (place.count % 8) digits t.small some)
 
   -- none is: the cells and the bytes they took
-  good_padding : place.waiting / 2 ^ (place.count / 8 * 8) ≡ 0 → unpacked n bytes ≡ gives (so.cells, place.at - place.count / 8)
+  pub good_padding : digits ≡ 0 → unpacked n bytes ≡ gives (so.cells, last.at - last.count / 8)
   unfolding unpacked ending
   good_padding none =
-      let count : length bytes - length (left_at bytes place) / 8 ≡ place.at - place.count / 8 =
-      omega (arith, rest_length, so.reached.inside, so.reached.read) in
+      let count : length bytes - length (left bytes place) / 8 ≡ last.at - last.count / 8 =
+      omega (arith, rest_length, so.reached.inside, so.reached.read, t.at, t.count) in
       rw (all_read, padding_bits, none, bits_zero (place.count % 8), none_set (place.count % 8))
       (ap (λ (k : ℕ). gives (so.cells, k)) count)
 
-  -- the answer that gives a row
-  pub row_answer : place.waiting / 2 ^ (place.count / 8 * 8) ≡ 0
-      → (result_of Done (take n (cells_of (record { cells = slots })), place.at - place.count / 8) ≡ unpacked n bytes)
-      × ((cells_of (record { cells = slots }), place.at - place.count / 8) ≡ held (unpacked n bytes))
-  row_answer none =
-      let e : length so.cells ≡ n = omega (arith, so.long, so.most) in
-      rw (good_padding none, so.stored)
-      (ap (λ (l : List Cell). gives (l, place.at - place.count / 8)) (take_at so.cells (blanks (cell_count - length so.cells)) n e), refl)
+  -- they are the first of the row
+  pub first_read : take n row ≡ so.cells
+  first_read = rw so.stored (take_at so.cells (blanks (cell_count - length so.cells)) n (omega (arith, so.long)))
 
--- the answer that refuses
-pub refusal_answer : (n : ℕ) (bytes : List ℕ) (refusal : Refusal) (r : UnpackedRow) → r ≡ refused_unpacking refusal → unpacked n bytes ≡ refused_by refusal
-    → (result_of r.outcome (take n (cells_of r.row), r.bytes) ≡ unpacked n bytes) × ((cells_of r.row, r.bytes) ≡ held (unpacked n bytes))
-refusal_answer n bytes refusal r e u = rw (e, u) (refl, refl)
+-- ---- a whole row
 
--- of a whole row an answer holds the value itself, or blanks, and so always a whole row
-pub held_row : (bytes : List ℕ)
-    → (held (unpacked cell_count bytes) ≡ value_or (blanks cell_count, 0) (unpacked cell_count bytes))
-    × (length (held (unpacked cell_count bytes)).0 ≡ cell_count)
-held_row bytes = by (unpacked cell_count bytes) (unpack_tells cell_count bytes)
-  where
-    by : (r : Result (List Cell × ℕ)) → IfUnpacked cell_count bytes r
-        → (held r ≡ value_or (blanks cell_count, 0) r) × (length (held r).0 ≡ cell_count)
-    by (refuses number cell) h = (refl, refl)
-    by (gives (cells, count)) h =
-        let none : cell_count - length cells ≡ 0 = omega (arith, h.long) in
-        let whole : filled_up cells ≡ cells = ap (λ (k : ℕ). cells ++ blanks k) none ∙ append-nil cells in
-        (ap (λ (l : List Cell). (l, count)) whole, ap length whole ∙ h.long)
+-- what was unpacked of a whole row is all its cells, and packs to the bytes that it took
+pub whole_row : (bytes : List ℕ) → Bytes bytes → (answer : Answer UnpackedRow Refusal)
+    → map_given (λ (it : UnpackedRow). (take cell_count (cells_of it.row), it.bytes)) (by_number answer) ≡ unpacked cell_count bytes
+    → IfOk answer (λ it. (cells_of it.row, it.bytes) ≡ held (unpacked cell_count bytes))
+    → (map_given (λ (it : UnpackedRow). (cells_of it.row, it.bytes)) (by_number answer) ≡ unpacked cell_count bytes)
+    × IfOk answer (λ it. (cells_of it.row, it.bytes) ≡ value_or (blanks cell_count, 0) (unpacked cell_count bytes))
+    × IfOk answer (λ it. packed (cells_of it.row) ≡ take it.bytes bytes)
+whole_row bytes known (Err refusal) h whole = (h, tt, tt)
+whole_row bytes known (Ok it) h whole =
+    let front : List Cell = take cell_count (cells_of it.row) in
+    let u = unpack_gives cell_count it.bytes bytes front (sym h) in
+    let none : cell_count - length front ≡ 0 = omega (arith, u.long) in
+    let all : cells_of it.row ≡ front =
+    ap (λ (p : List Cell × ℕ). p.0) whole
+    ∙ ap (λ (r : Result (List Cell × ℕ)). (held r).0) (sym h)
+    ∙ ap (λ (k : ℕ). front ++ blanks k) none
+    ∙ append-nil front in
+    (rw all h, rw (all, ← h), rw all (u.same known))

@@ -1,80 +1,51 @@
-// Unpack a row: from lent bytes, or a refusal with a blank row.
-ghost use Rattle.std.specs.Prelude.{◌≡◌, ◌≤◌, take};
+// Unpack a row: from lent bytes, or a refusal.
+ghost use Rattle.std.specs.Prelude.{◌≡◌, ◌≤◌, IfOk, take};
 ghost use Rattle.cells.specs.Row.{cell_count, cells_of, blanks};
-ghost use Rattle.cells.specs.Refusal.{result_of, value_or};
-ghost use Rattle.cells.specs.declared.refusal.Outcome.TheVariants.{Done};
+ghost use Rattle.cells.specs.Refusal.{by_number, map_given, value_or};
 ghost use Rattle.packed.specs.Packing.{packed};
 ghost use Rattle.packed.specs.Unpacking.{unpacked, held};
-ghost use Rattle.codec.specs.Answers.{refused_unpacking};
 
-use crate::cursor::at_start;
-use crate::reader::{NextCell, next_cell};
-use cells::refusal::{Outcome, Refusal};
-use cells::row::{CELLS, Cell, Row, Slot, blank_row};
+use crate::cursor::Cursor;
+use cells::refusal::Refusal;
+use cells::row::{CELLS, Row, blank_row};
 
-// What unpacking answers: the row and the bytes it took; on a refusal a blank row and 0.
+// What was unpacked: the row, and the byte count that document 01 gives with it.
 #[derive(Clone, Copy)]
 pub struct UnpackedRow {
-    pub outcome: Outcome,
-    pub bytes: usize,
     pub row: Row,
+    pub bytes: usize,
 }
 
-fn refused(refusal: Refusal) -> UnpackedRow
-    ensures { result ≡ refused_unpacking refusal }
-{
-    let row = blank_row();
-    UnpackedRow {
-        outcome: Outcome::Refused(refusal),
-        bytes: 0,
-        row,
-    }
-}
-
-// Unpacks n cells into the first cells of a row.
-pub fn unpack_cells(bytes: &[u8], n: usize) -> UnpackedRow
+// Unpacks n cells into the first cells of a row. n is no length of what is lent: the row is made here. `as`: a place is below 22.
+pub fn unpack_cells(bytes: &[u8], n: usize) -> Result<UnpackedRow, Refusal>
     requires { n ≤ cell_count }
-    ensures result { result_of result.outcome (take n (cells_of result.row), result.bytes) ≡ unpacked n bytes.now }
-    ensures whole { (cells_of result.row, result.bytes) ≡ held (unpacked n bytes.now) }
+    ensures result { map_given (λ it. (take n (cells_of it.row), it.bytes)) (by_number result) ≡ unpacked n bytes.now }
+    ensures whole { IfOk result (λ it. (cells_of it.row, it.bytes) ≡ held (unpacked n bytes.now)) }
 {
-    let blank = Slot { cell: Cell::Blank };
-    let mut slots = [blank; CELLS];
-    let mut cursor = at_start();
-    let mut i: usize = 0;
-    while i < n {
-        let step = next_cell(bytes, cursor);
-        match step {
-            NextCell::Ends => {
-                return refused(Refusal::CutOff((i + 1) as u32));
-            }
-            NextCell::Read(cell, next) => {
-                slots[i] = Slot { cell };
-                cursor = next;
-            }
-        }
-        i = i + 1;
+    let mut row = blank_row();
+    let mut cursor = Cursor::start();
+    // by number: of a row after a loop over part of it by `iter_mut`, a proof knows nothing
+    for i in 0..n {
+        row.cells[i] = cursor
+            .next_cell(bytes)
+            .ok_or(Refusal::CutOff((i + 1) as u32))?;
     }
-    let at = cursor.at;
-    let count = cursor.count;
-    let waiting = cursor.waiting;
     // whole bytes taken in and not read belong to what follows the row
-    let ahead = count / 8;
-    if waiting >> (ahead * 8) != 0 {
-        return refused(Refusal::Padding);
+    let padding = cursor.count % 8;
+    if cursor.take(padding) != 0 {
+        return Err(Refusal::Padding);
     }
-    let row = Row { cells: slots };
-    UnpackedRow {
-        outcome: Outcome::Done,
-        bytes: at - (ahead as usize),
+    Ok(UnpackedRow {
         row,
-    }
+        bytes: cursor.at - cursor.count / 8,
+    })
 }
 
-// Unpack a row. Packing what was unpacked gives the bytes that were read, whatever slice was lent.
-pub fn unpack_row(bytes: &[u8]) -> UnpackedRow
-    ensures result { result_of result.outcome (cells_of result.row, result.bytes) ≡ unpacked cell_count bytes.now }
-    ensures whole { (cells_of result.row, result.bytes) ≡ value_or (blanks cell_count, 0) (unpacked cell_count bytes.now) }
-    ensures back { result.outcome ≡ Done → packed (cells_of result.row) ≡ take result.bytes bytes.now }
+// Unpack a row: the 22 cells of `unpack_cells`, with a promise of its own. Packing what was unpacked gives the bytes that were read, whatever slice was lent.
+pub fn unpack_row(bytes: &[u8]) -> Result<UnpackedRow, Refusal>
+    ensures result { map_given (λ it. (cells_of it.row, it.bytes)) (by_number result) ≡ unpacked cell_count bytes.now }
+    ensures whole { IfOk result (λ it. (cells_of it.row, it.bytes) ≡ value_or (blanks cell_count, 0) (unpacked cell_count bytes.now)) }
+    ensures back { IfOk result (λ it. packed (cells_of it.row) ≡ take it.bytes bytes.now) }
 {
     unpack_cells(bytes, CELLS)
 }
