@@ -1,17 +1,18 @@
--- A number's bytes stored one after another, and lent bytes that floats fill part by part.
+-- The bytes of a number, and lent bytes that floats fill part by part.
 -- Assumes nothing.
 use mathlib.Core.Path.{◌≡◌, refl, sym, ap, ap₂, ◌∙◌}
-use mathlib.Core.List.{List, [], ◌∷◌, ◌++◌, append-nil, append_assoc}
-use Prim.Native.Nat.{ℕ, zero, suc, ◌+◌, ◌*◌, ◌/◌, ◌%◌, ◌^◌, ◌≤◌, ◌<◌}
+use mathlib.Core.List.{List, map, [], ◌∷◌, ◌++◌, append-nil, append_assoc}
+use Prim.Native.Nat.{ℕ, zero, suc, ◌+◌, ◌*◌, ◌/◌, ◌^◌, ◌≤◌, ◌<◌}
 use native.Mathlib.Numerals.{add-one}
 use native.Mathlib.Omega.{arith}
-use lib.ListN.{length, get_or, take, set, length-append, length-take}
-use lib.Seq.{take_at, take-suc-set, append_snoc}
+use lib.ListN.{length, get_or, take, length-append, length-take}
+use lib.Seq.{take_at}
 use lib.Ieee.{Float, nan, binary64, to_bits}
 use borrow.Rule.Slice.PartMut.{put_mid, post_of}
+use Rattle.std.specs.Int.{w64, to_le_bytes}
 use Rattle.cells.specs.HostBytes.{word_bytes, float_bytes, whole_float}
 use Rattle.cells.proofs.FloatLaws.{whole_not_nan}
-use Rattle.worksheet.specs.HostAnswer.{floats_bytes, whole_floats, Lossless, NoNans}
+use Rattle.worksheet.specs.HostAnswer.{floats_bytes, Lossless, NoNans}
 use Rattle.worksheet.proofs.FloatsMeaning.{no_nans_end, no_nans_then}
 
 pub word_bytes_length : (n w : ℕ) → length (word_bytes n w) ≡ n
@@ -19,11 +20,17 @@ unfolding word_bytes
 word_bytes_length zero w = refl
 word_bytes_length (suc n) w = ap suc (word_bytes_length n _)
 
--- one byte more of a number is stored, and the others are left
-pub word_step : (l : List ℕ) (i m w : ℕ) → i < length l → take (i + 1) (set l i (w % 256)) ++ word_bytes m (w / 256) ≡ take i l ++ word_bytes (suc m) w
+-- the bytes of a number of 64 bits as the language has them
+pub le_bytes : (n : ℕ) → to_le_bytes w64 n ≡ word_bytes 8 n
 unfolding word_bytes
-word_step l i m w h =
-    rw (add-one i, take-suc-set l i (w % 256) h) (append_snoc (take i l) (w % 256) (word_bytes m (w / 256)))
+le_bytes n =
+    let two : n / 256 / 256 ≡ n / 256 ^ 2 = omega arith in
+    let three : n / 256 ^ 2 / 256 ≡ n / 256 ^ 3 = omega arith in
+    let four : n / 256 ^ 3 / 256 ≡ n / 256 ^ 4 = omega arith in
+    let five : n / 256 ^ 4 / 256 ≡ n / 256 ^ 5 = omega arith in
+    let six : n / 256 ^ 5 / 256 ≡ n / 256 ^ 6 = omega arith in
+    let seven : n / 256 ^ 6 / 256 ≡ n / 256 ^ 7 = omega arith in
+    rw (two, three, four, five, six, seven)
 
 -- ---- floats, part by part
 
@@ -46,15 +53,15 @@ floats_step l ys xs i k h whole before e =
     ∙ ap₂ (λ (p q : List ℕ). p ++ q) before e
     ∙ rw add-one (sym (floats_next xs i h))
 
--- ---- whole numbers as floats
+-- ---- what is written as a float
 
--- the float in a place is that of the number there
-pub whole_float_at : (numbers : List ℕ) (i : ℕ) → i < length numbers → get_or (whole_floats numbers) i nan ≡ whole_float (get_or numbers i 0)
-whole_float_at [] i h = absurd (omega arith)
-whole_float_at (n ∷ numbers) zero h = refl
-whole_float_at (n ∷ numbers) (suc i) h = whole_float_at numbers i (omega arith)
+-- the float in a place is that of the value there
+pub float_of_place : {A : Type 0} (float : A → Float) (values : List A) (i : ℕ) (d : A) → i < length values → get_or (map float values) i nan ≡ float (get_or values i d)
+float_of_place float [] i d h = absurd (omega arith)
+float_of_place float (x ∷ values) zero d h = refl
+float_of_place float (x ∷ values) (suc i) d h = float_of_place float values i d (omega arith)
 
--- each of them is held without loss
+-- each whole number is held without loss
 pub lossless_at : (numbers : List ℕ) (i : ℕ) → Lossless numbers → i < length numbers → get_or numbers i 0 ≤ 2 ^ 53
 lossless_at [] i all h = absurd (omega arith)
 lossless_at (n ∷ numbers) zero all h = all.0

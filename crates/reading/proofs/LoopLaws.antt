@@ -1,58 +1,89 @@
--- What the answer of reading says, for a row and for a refusal; and how a loop reads cell after cell.
+-- How a loop reads cell after cell into a row: what it has read up to a cell, one cell more, a cell that it stops at, and the end.
 -- Assumes nothing.
-use mathlib.Core.Path.{◌≡◌, refl, sym, ap, ◌∙◌}
-use mathlib.Core.Bool.{Bool, cond}
+use mathlib.Core.Path.{◌≡◌, refl, sym, ap, ◌∙◌, subst}
+use mathlib.Core.Bool.{Bool, true, false, cond}
 use mathlib.Core.List.{List}
-use Prim.Native.Nat.{ℕ, ◌+◌, ◌<◌}
-use lib.ListN.{length, get_or, drop, length-map, get_or-map}
+use Prim.Native.Nat.{ℕ, ◌+◌, ◌<◌, ◌≤◌}
+use native.Mathlib.Omega.{arith}
+use lib.ListN.{length, get_or, take, drop, set, length-set, length-map, get_or-map}
+use Rattle.std.specs.Prelude.{None, Ok, Err, Result as Answer}
+use Rattle.std.specs.Result.{is_err}
 use Rattle.cells.specs.Lowest.{lowest}
-use Rattle.worksheet.specs.Reading.{read_cell, is_unreadable, cell_read}
-use Rattle.reading.specs.Answers.{refused_reading}
-use Rattle.cells.specs.Refusal.{Result, gives, refused_by, result_of, value_or}
-use Rattle.cells.specs.Row.{cell_count, cells_of, row_of, blanks}
-use Rattle.worksheet.specs.declared.host_cell.Reading.{Reading}
-use Rattle.reading.specs.declared.host_cells.ReadRow.{ReadRow}
+use Rattle.cells.specs.Refusal.{Result, gives, refuses, result_of, value_or}
+use Rattle.cells.specs.Row.{Cell}
 use Rattle.cells.specs.declared.refusal.Refusal.{Refusal}
-use Rattle.cells.specs.declared.refusal.Outcome.TheVariants.{Done}
-use Rattle.cells.specs.declared.row.Cell.{Cell}
-use Rattle.cells.specs.declared.row.Cell.TheVariants.{Blank}
+use Rattle.cells.specs.declared.refusal.Refusal.TheVariants.{Unreadable}
+use Rattle.cells.proofs.FillLaws.{fill_step, fill_end}
+use Rattle.cells.proofs.LowestLaws.{lowest_step, lowest_end}
+use Rattle.worksheet.specs.Number.{Reading}
+use Rattle.worksheet.specs.Reading.{read_cell, is_unreadable, cell_read, lowest_unreadable, read_cells}
 use Rattle.worksheet.specs.declared.host_cell.HostCell.{HostCell}
 use Rattle.worksheet.specs.declared.host_cell.HostCell.TheVariants.{Blank as Empty}
-use Rattle.cells.specs.declared.row.Slot.{Slot}
-use Rattle.cells.proofs.LowestLaws.{lowest_step}
-use Rattle.cells.proofs.RowLaws.{cells_of_row}
-use Rattle.worksheet.proofs.ReadingLaws.{as_read}
-
--- the answer says what the result is, and its row is blank where the result is a refusal
-abbrev pub ReadsAs : ReadRow → Result (List Cell) → Type 0
-ReadsAs answer result =
-    (result_of answer.outcome (cells_of answer.row) ≡ result) × (cells_of answer.row ≡ value_or (blanks cell_count) result)
-
-pub says_refused : (answer : ReadRow) (refusal : Refusal) (result : Result (List Cell)) → answer ≡ refused_reading refusal → result ≡ refused_by refusal
-    → ReadsAs answer result
-says_refused answer refusal result e q = rw (e, q) (refl, refl)
-
-pub says_row : (cells : List Cell) (result : Result (List Cell)) → result ≡ gives cells → ReadsAs (record { outcome = Done; row = row_of cells }) result
-says_row cells result q = rw q (ap gives (cells_of_row cells), cells_of_row cells)
+use Rattle.worksheet.specs.declared.host_cell.ReadError.{ReadError}
+use Rattle.worksheet.proofs.ReadingLaws.{as_read, read_given, read_refused}
+use Rattle.reading.specs.Cells.{or_named}
 
 -- whether a cell is unreadable, as the test of a search
-abbrev pub unreadable : ℕ → HostCell → Bool
+abbrev unreadable : ℕ → HostCell → Bool
 unreadable n cell = is_unreadable (read_cell cell)
 
--- the slots that a loop over readable cells fills
-abbrev pub slots_read : List HostCell → List Slot
-slots_read cells = (row_of (as_read cells)).cells
+-- the first i cells are readable, and a row holds what they read as
+pub record ReadUpTo (cells : List HostCell) (i : ℕ) (row : List Cell) : Type 0 where
+  pub whole : length row ≡ length cells
+  pub stored : take i row ≡ take i (as_read cells)
+  pub searched : lowest_unreadable cells ≡ lowest unreadable (i + 1) (drop i cells)
 
--- a search for an unreadable cell that has come to cell i, which reads as r
-pub search_on : (cells : List HostCell) (i : ℕ) (r : Reading) → i < length cells → r ≡ read_cell (get_or cells i Empty)
+-- a search that has come to cell i, which reads as r
+search_on : (cells : List HostCell) (i : ℕ) (r : Reading) → i < length cells → r ≡ read_cell (get_or cells i Empty)
     → lowest unreadable (i + 1) (drop i cells) ≡ cond (is_unreadable r) (i + 1) (lowest unreadable (i + 1 + 1) (drop (i + 1) cells))
 search_on cells i r h e = lowest_step unreadable cells i (i + 1) Empty (is_unreadable r) h (ap is_unreadable (sym e))
 
-pub slots_read_length : (cells : List HostCell) → length (slots_read cells) ≡ length cells
-slots_read_length cells = length-map (as_read cells) (λ (cell : Cell). record { cell = cell }) ∙ length-map cells (λ (cell : HostCell). cell_read (read_cell cell))
+as_many : (cells : List HostCell) → length (as_read cells) ≡ length cells
+as_many cells = length-map cells (λ (cell : HostCell). cell_read (read_cell cell))
 
-pub slots_read_at : (cells : List HostCell) (i : ℕ) (r : Reading) → r ≡ read_cell (get_or cells i Empty)
-    → get_or (slots_read cells) i (record { cell = Blank }) ≡ record { cell = cell_read r }
-slots_read_at cells i r e =
-    get_or-map (λ (cell : Cell). record { cell = cell }) (as_read cells) i Blank
-    ∙ ap (λ (cell : Cell). record { cell = cell }) (get_or-map (λ (cell : HostCell). cell_read (read_cell cell)) cells i Empty ∙ ap cell_read (sym e))
+pub read_none : (cells : List HostCell) (row : List Cell) → length row ≡ length cells → ReadUpTo cells 0 row
+read_none cells row whole = record { whole = whole; stored = refl; searched = refl }
+
+pub read_more : {cells : List HostCell} {i : ℕ} {row : List Cell} (cell : Cell) → ReadUpTo cells i row → i < length cells → Ok cell ≡ read_cell (get_or cells i Empty) → ReadUpTo cells (i + 1) (set row i cell)
+read_more {cells = cells} {i = i} {row = row} cell read h e = record {
+  whole = length-set row i cell ∙ read.whole;
+  stored =
+      fill_step row (as_read cells) i cell None (omega (arith, read.whole)) (omega (arith, as_many cells)) read.stored
+      (get_or-map (λ (cell : HostCell). cell_read (read_cell cell)) cells i Empty ∙ ap cell_read (sym e));
+  searched = read.searched ∙ search_on cells i (Ok cell) (omega arith) e;
+}
+
+pub read_stops : {cells : List HostCell} {i : ℕ} {row : List Cell} (reason : ReadError) → ReadUpTo cells i row → i < length cells
+    → Err reason ≡ read_cell (get_or cells i Empty) → read_cells cells ≡ refuses 1 (i + 1)
+read_stops {cells = cells} {i = i} reason read h e = read_refused cells i (read.searched ∙ search_on cells i (Err reason) h e)
+
+pub read_all : {cells : List HostCell} {i : ℕ} {row : List Cell} → ReadUpTo cells i row → length cells ≤ i → read_cells cells ≡ gives row
+read_all {cells = cells} {i = i} {row = row} read h =
+    read_given cells (read.searched ∙ lowest_end unreadable cells i (i + 1) (omega arith))
+    ∙ ap gives (sym (fill_end row (as_read cells) i (omega (arith, read.whole)) (omega (arith, as_many cells)) read.stored))
+
+-- ---- what a cell's answer tells of its reading
+
+abbrev Fails : {A E : Type 0} → Answer A E → Type 0
+Fails (Ok value) = ⊥
+Fails (Err reason) = Unit {0}
+
+pub was_read : (n : ℕ) (r : Reading) (cell : Cell) → or_named n r ≡ Ok cell → Ok cell ≡ r
+was_read n (Ok other) cell e = cc
+was_read n (Err reason) cell e = absurd (subst (λ (s : Answer Cell Refusal). Fails s) e tt)
+
+pub was_unreadable : (n : ℕ) (r : Reading) (refusal : Refusal) → or_named n r ≡ Err refusal → (reason : ReadError) × (Err reason ≡ r) × (refusal ≡ Unreadable n)
+was_unreadable n (Ok cell) refusal e = absurd (subst (λ (s : Answer Cell Refusal). Fails s) (sym e) tt)
+was_unreadable n (Err reason) refusal e = (reason, refl, cc)
+
+-- ---- what reading in place leaves
+
+pub refused_leaves : (answer : Answer (Unit {0}) Refusal) (row nothing : List Cell) (result : Result (List Cell)) → result_of answer row ≡ result → is_err answer ≡ true
+    → (result_of answer nothing ≡ result) × (nothing ≡ value_or nothing result)
+refused_leaves (Ok done) row nothing result e h = absurd (cc)
+refused_leaves (Err refusal) row nothing result e h = (e, ap (value_or nothing) e)
+
+pub done_leaves : (answer : Answer (Unit {0}) Refusal) (row nothing : List Cell) (result : Result (List Cell)) → result_of answer row ≡ result → is_err answer ≡ false
+    → row ≡ value_or nothing result
+done_leaves (Ok done) row nothing result e h = ap (value_or nothing) e
+done_leaves (Err refusal) row nothing result e h = absurd (cc)

@@ -1,63 +1,52 @@
 // Read cells to whole numbers.
-ghost use Rattle.std.specs.Prelude.{◌≡◌};
-ghost use Rattle.cells.specs.Refusal.{result_of, value_or};
-ghost use Rattle.cells.specs.Row.{cell_count, cells_of, blanks};
+ghost use Rattle.std.specs.Prelude.{◌≡◌, ℕ, ◌+◌, ◌<◌, List, length, get_or};
+ghost use Rattle.cells.specs.Refusal.{by_number, map_given, result_of};
+ghost use Rattle.cells.specs.Row.{cell_count, cells_of};
 ghost use Rattle.worksheet.specs.Reading.{read_cell, read_cells};
-ghost use Rattle.reading.specs.Answers.{refused_reading};
+ghost use Rattle.worksheet.specs.declared.host_cell.HostCell.{HostCell};
+ghost use Rattle.reading.specs.Cells.{ComeFrom, or_named};
 
 use crate::number::read_number;
-use cells::refusal::{Outcome, Refusal};
-use cells::row::{CELLS, Cell, Row, Slot, blank_row};
+use cells::refusal::Refusal;
+use cells::row::{CELLS, Cell, Row, blank_row};
 use worksheet::host_cell::{HostCell, Reading};
 
-// What reading answers: the row, or a refusal and a blank row.
-#[derive(Clone, Copy)]
-pub struct ReadRow {
-    pub outcome: Outcome,
-    pub row: Row,
-}
-
-pub(crate) fn refused(refusal: Refusal) -> ReadRow
-    ensures { result ≡ refused_reading refusal }
-{
-    let row = blank_row();
-    ReadRow {
-        outcome: Outcome::Refused(refusal),
-        row,
-    }
-}
-
-// The reading of one cell.
+// The reading of one cell: a match on its cases, as document 01 has it.
 pub(crate) fn read_cell(cell: HostCell) -> Reading
     ensures { result ≡ read_cell cell }
 {
     match cell {
-        HostCell::Blank => Reading::Read(Cell::Blank),
+        HostCell::Blank => Ok(None),
         HostCell::Number(x) => read_number(x),
     }
 }
 
+// The reading of the cell in a place of a row; where it is unreadable, the refusal that names it. `as`: a place is below 22.
+fn read_in_place(cell: HostCell, i: usize) -> Result<Cell, Refusal>
+    requires { i < cell_count }
+    ensures { result ≡ or_named (i + 1) (read_cell cell) }
+{
+    read_cell(cell).map_err(|_| Refusal::Unreadable((i + 1) as u32))
+}
+
+// Reads cell after cell into a row, as far as they are readable. Where a cell comes from, the caller knows: it is read where it stands.
+#[inline(always)]
+pub(crate) fn read_each<F: Fn(usize) -> HostCell>(cell_at: F, row: &mut Row) -> Result<(), Refusal>
+    requires whole { length (cells_of row.old) ≡ cell_count }
+    requires each { (i : ℕ) → i < cell_count → F.pre cell_at i }
+    ensures { (cells : List HostCell) → ComeFrom cells (F.post cell_at) → result_of result (cells_of row.new) ≡ read_cells cells }
+{
+    for (i, slot) in row.cells.iter_mut().enumerate() {
+        *slot = read_in_place(cell_at(i), i)?;
+    }
+    Ok(())
+}
+
 // Read cells to whole numbers.
-pub fn read_cells(cells: [HostCell; CELLS]) -> ReadRow
-    ensures result { result_of result.outcome (cells_of result.row) ≡ read_cells cells }
-    ensures whole { cells_of result.row ≡ value_or (blanks cell_count) (read_cells cells) }
+pub fn read_cells(cells: [HostCell; CELLS]) -> Result<Row, Refusal>
+    ensures { map_given cells_of (by_number result) ≡ read_cells cells }
 {
     let mut row = blank_row();
-    let mut i: usize = 0;
-    while i < CELLS {
-        let reading = read_cell(cells[i]);
-        match reading {
-            Reading::Unreadable => {
-                return refused(Refusal::Unreadable((i + 1) as u32));
-            }
-            Reading::Read(cell) => {
-                row.cells[i] = Slot { cell };
-            }
-        }
-        i = i + 1;
-    }
-    ReadRow {
-        outcome: Outcome::Done,
-        row,
-    }
+    read_each(|i| cells[i], &mut row)?;
+    Ok(row)
 }

@@ -5,11 +5,10 @@ use Rattle.worksheet.proofs.NumberLaws.{zero_bits, negative_bits, small_bits, la
 use Rattle.reading.proofs.number.read_bits.Goals as goal
 
 pub returns-then-bits-eq0 : goal.returns-then-bits-eq0
-returns-then-bits-eq0 c = c.read_whole.ensures ∙ sym (zero_bits c.args.bits (omega arith))
+returns-then-bits-eq0 c = sym (zero_bits c.args.bits (omega arith))
 
 pub returns-then-bits-eq9223372036854775808 : goal.returns-then-bits-eq9223372036854775808
-returns-then-bits-eq9223372036854775808 c =
-    c.read_whole-then-bits-eq9223372036854775808.ensures ∙ sym (zero_bits c.args.bits (omega arith))
+returns-then-bits-eq9223372036854775808 c = sym (zero_bits c.args.bits (omega arith))
 
 pub returns-then-bits-gt9223372036854775808 : goal.returns-then-bits-gt9223372036854775808
 returns-then-bits-gt9223372036854775808 c =
@@ -37,6 +36,5 @@ returns c =
     let d = 2 ^ 52 + b % 2 ^ 52 in
     let k = 1075 - b / 2 ^ 52 in
     let low : 19 ≤ k = omega arith in
-    c.read_whole-2.ensures
-    ∙ sym (middle_bits b (omega arith) c.if-exponent-lt1023.false c.if-exponent-gt1056.false
+    sym (middle_bits b (omega arith) c.if-exponent-lt1023.false c.if-exponent-gt1056.false
     ∙ is_whole d (2 ^ k) (back_whole d k (omega arith) c.if-number-places.false) (quotient_lt d k (omega arith) low))
