@@ -1,4 +1,5 @@
-// The entries of the worksheet host: each hands on what it was lent.
+// The entries of the worksheet host: each hands on what it was lent. Four forwards of one form, since C links each by a name of its own. Document 01 has them on
+// numbers and byte slices, and asks that each tell its whole result: so contracts and demand 3 stand here as they do at the operation.
 ghost use Rattle.std.specs.Prelude.{◌≡◌, length};
 ghost use Rattle.floorrules.specs.Demand.{floor_factor};
 ghost use Rattle.floorrules.specs.HostBeam.{beam_returns, beam_leaves, HostKeepsFloorDemand};

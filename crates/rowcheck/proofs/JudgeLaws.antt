@@ -1,25 +1,26 @@
 -- What a check says of the verdict, by what the code finds for it.
 -- Assumes nothing.
-use Prim.Native.Nat.{ℕ}
-use native.Mathlib.Omega.{arith}
-use mathlib.Core.Path.{◌≡◌, refl, sym, ap, ap₂, subst, ◌∙◌}
+use mathlib.Core.Path.{◌≡◌, refl, sym, ap, ap₂, ◌∙◌}
 use mathlib.Core.Bool.{Bool, true, false, not, cond, ◌||◌, true≢false}
 use mathlib.Core.List.{List, [], ◌∷◌, ◌++◌}
-use mathlib.Core.Option.{Option, none, some}
-use lib.Dec.{leb, leb-zero, eqb}
-use borrow.Author.Tests.{not-true, not-false, leb-true, ne_eqb}
+use mathlib.Core.Option.{Option as Maybe, none, some}
+use Rattle.std.specs.Prelude.{Option, None, Some, option_map}
+use lib.Dec.{leb, leb-zero}
+use borrow.Author.Tests.{not-true, not-false, leb-true}
 use Rattle.cells.specs.Greatest.{or_greater, greatest}
-use Rattle.rounding.specs.Utilisation.{utilisation}
-use Rattle.sp64.specs.Buckling.{buckling_phi, buckling_capacity, euler_capacity}
-use Rattle.sp64.specs.Combined.{compression_bending_utilisation, tension_bending_utilisation}
 use Rattle.sp64.specs.Joint.{Layout}
-use Rattle.sp64.specs.Slenderness.{StrutRanges, slenderness_holds}
+use Rattle.sp64.specs.Slenderness.{slenderness_holds}
 use Rattle.sp64.specs.declared.strut.Strut.{Strut}
-use Rattle.sp64.specs.declared.tables.Stress.TheVariants.{Compression as compressionStress, Tension as tensionStress}
 use Rattle.member.specs.Cells.{required}
-use Rattle.member.specs.Checks.{YesNoCheck, StrengthCheck, yes_no, strength, check_number, without_check3, yes_no_checks, strength_checks, omitted, layout, slenderness, joint_length, bending, buckling, compression_bending, tension_bending}
-use Rattle.member.specs.Member.{Across, across_height, across_width, strut_of, limit_of, count_of, NRof, MRof}
+use Rattle.member.specs.Checks.{check_number, without_check3, yes_no_checks, strength_checks, omitted}
+use Rattle.member.specs.Member.{strut_of, limit_of, count_of}
 use Rattle.member.specs.Verdict.{holds, utilisation_of, used, greater_of, governed_by, has_strength, governing, judge_by, failed_on, by_strength, verdict}
+use Rattle.member.specs.declared.check.Across.{Across}
+use Rattle.member.specs.declared.check.Across.TheVariants.{Height as across_height, Width as across_width}
+use Rattle.member.specs.declared.check.Check.TheVariants.{YesNo as yes_no, Strength as strength}
+use Rattle.member.specs.declared.check.StrengthCheck.{StrengthCheck}
+use Rattle.member.specs.declared.check.YesNoCheck.{YesNoCheck}
+use Rattle.member.specs.declared.check.YesNoCheck.TheVariants.{Layout as layout, Slenderness as slenderness, JointLength as joint_length}
 use Rattle.member.specs.declared.kind.Kind.{Kind}
 use Rattle.member.specs.declared.kind.Kind.TheVariants.{Tension, Bending, Compression, CompressionBending, TensionBending}
 use Rattle.member.specs.declared.member.Member.{Member}
@@ -33,23 +34,31 @@ module _ (m : Member) where
   struts = slenderness across_height ∷ slenderness across_width ∷ []
 
   -- the code's test of check 1, and what it finds for checks 2 and 3 with the struts s and t
-  abbrev layout_passed : Bool
+  abbrev pub layout_passed : Bool
   layout_passed = omitted m (yes_no layout) || holds m layout
 
-  abbrev too_slender : Strut → Strut → ℕ
-  too_slender s t = cond (slenderness_holds (limit_of m) s) (cond (without_check3 m.table16 || slenderness_holds (limit_of m) t) 0 3) 2
+  abbrev too_slender : Strut → Strut → Option Across
+  too_slender s t = cond (slenderness_holds (limit_of m) s) (cond (without_check3 m.table16 || slenderness_holds (limit_of m) t) None (Some across_width)) (Some across_height)
+
+  -- where check 1 fails there is a joint
+  pub jointed_of : layout_passed ≡ false → m.jointed ≡ true
+  jointed_of = by m.jointed refl
+    where
+      by : (t : Bool) → m.jointed ≡ t → layout_passed ≡ false → t ≡ true
+      by true j fails = refl
+      by false j fails = absurd (true≢false (rw j at fails))
 
   -- check 1 fails: the row is of kind 1, which has it first
-  pub layout_first : m.kind ≡ Tension → layout_passed ≡ false → 1 ≡ first_failed m (yes_no_checks m.kind)
+  pub layout_first : m.kind ≡ Tension → layout_passed ≡ false → Some layout ≡ first_failed m (yes_no_checks m.kind)
   unfolding first_failed
   layout_first e fails = rw (e, fails) refl
 
   -- a kind without effective lengths has none of the three
-  pub no_slenderness : required m.kind 11 ≡ false → 0 ≡ first_failed m (yes_no_checks m.kind)
+  pub no_slenderness : required m.kind 11 ≡ false → None ≡ first_failed m (yes_no_checks m.kind)
   unfolding first_failed
   no_slenderness = by m.kind
     where
-      by : (kind : Kind) → required kind 11 ≡ false → 0 ≡ first_failed m (yes_no_checks kind)
+      by : (kind : Kind) → required kind 11 ≡ false → None ≡ first_failed m (yes_no_checks kind)
       by Tension e = absurd (true≢false e)
       by Bending e = refl
       by Compression e = absurd (true≢false e)
@@ -57,10 +66,15 @@ module _ (m : Member) where
       by TensionBending e = absurd (true≢false e)
 
   -- in the others checks 2 and 3 decide, where check 1 holds or is not one of the row's
-  pub slender_first : {s t : Strut} {n : ℕ} → s ≡ strut_of m across_height → t ≡ strut_of m across_width → n ≡ too_slender s t → required m.kind 11 ≡ true → layout_passed ≡ true → n ≡ first_failed m (yes_no_checks m.kind)
+  pub slender_first : {s t : Strut} {found : Option Across} → s ≡ strut_of m across_height → t ≡ strut_of m across_width → found ≡ too_slender s t → required m.kind 11 ≡ true → layout_passed ≡ true → option_map slenderness found ≡ first_failed m (yes_no_checks m.kind)
   unfolding first_failed
-  slender_first high wide found has laid = found ∙ ap₂ too_slender high wide ∙ by m.kind has
+  slender_first high wide is has laid = ap (option_map slenderness) (is ∙ ap₂ too_slender high wide) ∙ named (holds m (slenderness across_height)) (without_check3 m.table16 || holds m (slenderness across_width)) ∙ by m.kind has
     where
+      named : (x y : Bool) → option_map slenderness (cond x (cond y None (Some across_width)) (Some across_height)) ≡ cond x (cond y None (Some (slenderness across_width))) (Some (slenderness across_height))
+      named true true = refl
+      named true false = refl
+      named false y = refl
+
       by : (kind : Kind) → required kind 11 ≡ true → first_failed m struts ≡ first_failed m (yes_no_checks kind)
       by Tension e = rw laid refl
       by Bending e = absurd (true≢false (sym e))
@@ -68,15 +82,20 @@ module _ (m : Member) where
       by CompressionBending e = refl
       by TensionBending e = refl
 
-  -- the first that fails gives the verdict; where none does, joint length is left, if it is among the checks
-  abbrev ByFirst : List YesNoCheck → List YesNoCheck → Verdict → Type 0
-  ByFirst checks rest v = judge_by m checks v ≡ cond (eqb (first_failed m checks) 0) (judge_by m rest v) (failed_on (first_failed m checks) 0)
+  -- the first that fails gives the verdict; where none does, another is left
+  abbrev first_or : Option YesNoCheck → Verdict → Verdict
+  first_or None otherwise = otherwise
+  first_or (Some check) otherwise = failed_on (check_number (yes_no check)) 0
 
-  struts_decide : (rest : List YesNoCheck) (v : Verdict) → first_failed m rest ≡ 0 → ByFirst (struts ++ rest) rest v
+  -- the first of these checks that fails gives the verdict; where none does, joint length is left, if it is among the checks
+  abbrev ByFirst : List YesNoCheck → List YesNoCheck → Verdict → Type 0
+  ByFirst checks rest v = judge_by m checks v ≡ first_or (first_failed m checks) (judge_by m rest v)
+
+  struts_decide : (rest : List YesNoCheck) (v : Verdict) → first_failed m rest ≡ None → ByFirst (struts ++ rest) rest v
   unfolding judge_by first_failed
-  struts_decide rest v zero = rw zero (by (holds m (slenderness across_height)) (omitted m (yes_no (slenderness across_width)) || holds m (slenderness across_width)))
+  struts_decide rest v none_left = rw none_left (by (holds m (slenderness across_height)) (omitted m (yes_no (slenderness across_width)) || holds m (slenderness across_width)))
     where
-      by : (x y : Bool) → cond x (cond y (judge_by m rest v) (failed_on 3 0)) (failed_on 2 0) ≡ cond (eqb (cond x (cond y 0 3) 2) 0) (judge_by m rest v) (failed_on (cond x (cond y 0 3) 2) 0)
+      by : (x y : Bool) → cond x (cond y (judge_by m rest v) (failed_on 3 0)) (failed_on 2 0) ≡ first_or (cond x (cond y None (Some (slenderness across_width))) (Some (slenderness across_height))) (judge_by m rest v)
       by true true = refl
       by true false = refl
       by false y = refl
@@ -108,39 +127,38 @@ module _ (m : Member) where
   abbrev strength_verdict : Kind → Verdict
   strength_verdict kind = by_strength (governing m (strength_checks kind)) (count_of m)
 
-  -- the code finds n
-  module _ {n : ℕ} (found : n ≡ first_failed m (yes_no_checks m.kind)) where
-    -- one fails
-    pub first_gives : (n ≡ 0 → ⊥) → failed_on n 0 ≡ verdict m
-    first_gives fails = rw (first_decides m.kind (strength_verdict m.kind), ← found, ne_eqb n 0 fails) refl
+  -- one fails
+  pub first_gives : {check : YesNoCheck} → Some check ≡ first_failed m (yes_no_checks m.kind) → failed_on (check_number (yes_no check)) 0 ≡ verdict m
+  first_gives found = rw (first_decides m.kind (strength_verdict m.kind), ← found) refl
 
-    module _ (zero : n ≡ 0) where
-      past_first : judge_by m (length_checks m.kind) (strength_verdict m.kind) ≡ verdict m
-      past_first = rw (first_decides m.kind (strength_verdict m.kind), ← found, zero) refl
+  -- none does
+  module _ (none_fails : None ≡ first_failed m (yes_no_checks m.kind)) where
+    past_first : judge_by m (length_checks m.kind) (strength_verdict m.kind) ≡ verdict m
+    past_first = rw (first_decides m.kind (strength_verdict m.kind), ← none_fails) refl
 
-      -- none does, and the row has a joint: check 4 is left
-      pub joint_left : m.kind ≡ Tension → judge_by m (joint_length ∷ []) (strength_verdict Tension) ≡ verdict m
-      joint_left e = ap (λ (kind : Kind). judge_by m (length_checks kind) (strength_verdict kind)) (sym e) ∙ past_first
+    -- the row has a joint: check 4 is left
+    pub joint_left : m.kind ≡ Tension → judge_by m (joint_length ∷ []) (strength_verdict Tension) ≡ verdict m
+    joint_left e = ap (λ (kind : Kind). judge_by m (length_checks kind) (strength_verdict kind)) (sym e) ∙ past_first
 
-      -- the layout of that joint holds
-      pub layout_held : m.kind ≡ Tension → m.jointed ≡ true → Layout m.height m.joint
-      layout_held e j = by (holds m layout) refl
-        where
-          by : (t : Bool) → holds m layout ≡ t → Layout m.height m.joint
-          by true h = leb-true _ _ h
-          by false h = let z : ◌≡◌ {A = ℕ} 1 0 = layout_first e (rw (j, h) refl) ∙ sym found ∙ zero in absurd (omega arith)
+    -- the layout of that joint holds
+    pub layout_held : m.kind ≡ Tension → m.jointed ≡ true → Layout m.height m.joint
+    layout_held e j = by (holds m layout) refl
+      where
+        by : (t : Bool) → holds m layout ≡ t → Layout m.height m.joint
+        by true h = leb-true _ _ h
+        by false h = let z : ◌≡◌ {A = Option YesNoCheck} (Some layout) None = layout_first e (rw (j, h) refl) ∙ sym none_fails in cc
 
-      -- none does, and the row has no joint: strength is left
-      pub strength_left : m.jointed ≡ false → by_strength (governing m (strength_checks m.kind)) 0 ≡ verdict m
-      unfolding judge_by
-      strength_left j = ap (by_strength (governing m (strength_checks m.kind))) (rw j refl) ∙ by m.kind (strength_verdict m.kind) ∙ past_first
-        where
-          by : (kind : Kind) (v : Verdict) → v ≡ judge_by m (length_checks kind) v
-          by Tension v = rw j refl
-          by Bending v = refl
-          by Compression v = refl
-          by CompressionBending v = refl
-          by TensionBending v = refl
+    -- the row has no joint: strength is left
+    pub strength_left : m.jointed ≡ false → by_strength (governing m (strength_checks m.kind)) 0 ≡ verdict m
+    unfolding judge_by
+    strength_left j = ap (by_strength (governing m (strength_checks m.kind))) (rw j refl) ∙ by m.kind (strength_verdict m.kind) ∙ past_first
+      where
+        by : (kind : Kind) (v : Verdict) → v ≡ judge_by m (length_checks kind) v
+        by Tension v = rw j refl
+        by Bending v = refl
+        by Compression v = refl
+        by CompressionBending v = refl
+        by TensionBending v = refl
 
 -- a check that the row has: the test is of the check alone
 pub has : {omits holds t : Bool} → omits ≡ false → t ≡ holds → t ≡ (omits || holds)
@@ -159,7 +177,7 @@ module _ (m : Member) (v : Verdict) {t : Bool} {r : Verdict} (found : t ≡ (omi
   length_holds left e = rw (← found, not-false t left) e
 
 -- the greater of c and what governs the rest, by what the code finds for them
-greater_of_lem : (m : Member) (c : StrengthCheck) (rest : Option StrengthCheck) → greater_of (used m c) (governed_by m rest) ≡ used m (or_greater (utilisation_of m) c rest)
+greater_of_lem : (m : Member) (c : StrengthCheck) (rest : Maybe StrengthCheck) → greater_of (used m c) (governed_by m rest) ≡ used m (or_greater (utilisation_of m) c rest)
 greater_of_lem m c none = rw leb-zero refl
 greater_of_lem m c (some d) = by (leb (utilisation_of m d) (utilisation_of m c))
   where
@@ -178,30 +196,3 @@ module _ (m : Member) (c : StrengthCheck) {x : Governing} (kept : omitted m (str
   pub next_governs : (checks : List StrengthCheck) {y g : Governing} → y ≡ governing m checks → g ≡ greater_of x y → g ≡ governing m (c ∷ checks)
   unfolding greatest
   next_governs checks rest e = rw kept (e ∙ ap₂ greater_of found rest ∙ greater_of_lem m c (greatest (has_strength m) (utilisation_of m) checks))
-
--- a strut that the code makes is in its ranges as the member's is
-pub strut_in : {s t : Strut} → s ≡ t → StrutRanges t → StrutRanges s
-strut_in e known = subst (λ (s : Strut). StrutRanges s) (sym e) known
-
--- What the code finds for a strength check, from the capacities and struts that it has found.
-module _ (m : Member) where
-  abbrev at : ℕ → ℕ → Governing
-  at check utilisation = record { check = check; utilisation = utilisation }
-
-  pub bending_found : {mr : ℕ} {x : Governing} → mr ≡ MRof m → x ≡ at 7 (utilisation m.moment mr) → x ≡ used m bending
-  bending_found e found = found ∙ ap (λ (mr : ℕ). at 7 (utilisation m.moment mr)) e
-
-  pub buckling_found : (across : Across) {nr : ℕ} {strut : Strut} {x : Governing} → nr ≡ NRof compressionStress m → strut ≡ strut_of m across
-      → x ≡ at (check_number (strength (buckling across))) (utilisation m.force (buckling_capacity nr (buckling_phi strut))) → x ≡ used m (buckling across)
-  buckling_found across e s found =
-      found ∙ ap₂ (λ (nr : ℕ) (strut : Strut). at (check_number (strength (buckling across))) (utilisation m.force (buckling_capacity nr (buckling_phi strut)))) e s
-
-  pub compression_bending_found : {nr mr : ℕ} {strut : Strut} {x : Governing} → nr ≡ NRof compressionStress m → mr ≡ MRof m → strut ≡ strut_of m across_height
-      → x ≡ at 11 (compression_bending_utilisation m.force m.moment nr (euler_capacity nr strut) mr) → x ≡ used m compression_bending
-  compression_bending_found {nr} {mr} {strut} e f s found =
-      found
-      ∙ ap (λ (strut : Strut). at 11 (compression_bending_utilisation m.force m.moment nr (euler_capacity nr strut) mr)) s
-      ∙ ap₂ (λ (nr mr : ℕ). at 11 (compression_bending_utilisation m.force m.moment nr (euler_capacity nr (strut_of m across_height)) mr)) e f
-
-  pub tension_bending_found : {nr mr : ℕ} {x : Governing} → nr ≡ NRof tensionStress m → mr ≡ MRof m → x ≡ at 11 (tension_bending_utilisation m.force m.moment nr mr) → x ≡ used m tension_bending
-  tension_bending_found e f found = found ∙ ap₂ (λ (nr mr : ℕ). at 11 (tension_bending_utilisation m.force m.moment nr mr)) e f

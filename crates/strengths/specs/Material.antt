@@ -1,7 +1,7 @@
 -- The material of a row, from its cells.
 -- Assumes nothing.
 use Rattle.std.specs.Prelude.{List}
-use Rattle.cells.specs.declared.row.Cell.{Cell}
+use Rattle.cells.specs.Row.{Cell}
 use Rattle.member.specs.Member.{value_at, values_of}
 use Rattle.sp64.specs.Strength.{material_of}
 use Rattle.sp64.specs.declared.strength.Material.{Material}
