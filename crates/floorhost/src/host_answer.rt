@@ -1,41 +1,46 @@
 // A floor beam's verdict as the host gets it: six floats in 48 lent bytes.
 ghost use Rattle.std.specs.Prelude.{◌≡◌, ◌^◌, ◌≤◌, length};
-ghost use Rattle.floorrules.specs.FloorBeam.{beam_refusal_code};
-ghost use Rattle.floorhost.specs.Returns.{beam_verdict_returns, beam_verdict_leaves};
+ghost use Rattle.cells.specs.Refusal.{leaves, result_of, told};
+ghost use Rattle.floorrules.specs.FloorBeam.{beam_answer_result, beam_refusal_code};
+ghost use Rattle.floorrules.specs.HostBeam.{beam_answered, beam_bytes, beam_pass_or_fail};
 
 use answer::floats::write_numbers;
-use cells::refusal::{Outcome, refusal_code};
+use cells::refusal::Refusal;
 use floorrules::answer::{BeamRefusal, BeamVerdict};
 
-// What the host is told of a refusal: 1000 × number + cell.
-pub(crate) fn beam_refusal_code(refusal: BeamRefusal) -> u64
+// What the host is told of a refusal: 1000 × number + cell. No method beside `Refusal::code`: the must-fail edit on this 8000 is one of this crate, so the number stays in it.
+fn beam_refusal_code(refusal: BeamRefusal) -> u64
     ensures { result ≡ beam_refusal_code refusal }
 {
     match refusal {
         BeamRefusal::LoadOrSpan => 8000,
-        BeamRefusal::Row(refusal) => refusal_code(refusal),
+        BeamRefusal::Row(refusal) => refusal.code(),
     }
 }
 
-// A verdict as the host gets it: 0 for pass and 1 for fail, the rest of it in the answer's bytes; or the refusal of the answer's length.
-pub(crate) fn answer_beam_verdict(v: BeamVerdict, answer: &mut [u8]) -> u64
-    requires { (v.moment ≤ 2 ^ 53) × (v.shear ≤ 2 ^ 53) }
-    ensures result { result ≡ beam_verdict_returns (length answer.old) v }
-    ensures buffer { answer.new ≡ beam_verdict_leaves v answer.old }
+// What the host is told: 0 for pass, 1 for fail, or the refusal. A number, since the C entry hands it on.
+pub(crate) fn told(answered: Result<BeamVerdict, BeamRefusal>) -> u64
+    ensures { result ≡ told beam_pass_or_fail (beam_answer_result answered) }
 {
-    let verdict = v.verdict;
-    let passes = verdict.passes;
+    match answered {
+        Ok(v) => u64::from(!v.verdict.passes),
+        Err(refusal) => beam_refusal_code(refusal),
+    }
+}
+
+// Puts a verdict into the answer's bytes; refuses another length and writes nothing. Six floats in the host's order, and no struct of them (decision 139).
+pub(crate) fn write_beam_verdict(v: BeamVerdict, answer: &mut [u8]) -> Result<(), Refusal>
+    requires { (v.moment ≤ 2 ^ 53) × (v.shear ≤ 2 ^ 53) }
+    ensures result { result_of result v ≡ beam_answered (length answer.old) v }
+    ensures buffer { answer.new ≡ leaves (beam_answered (length answer.old) v) beam_bytes answer.old }
+{
     let numbers = [
-        verdict.utilisation as u64,
-        verdict.count as u64,
-        verdict.check as u64,
-        v.regime as u64,
+        u64::from(v.verdict.utilisation),
+        u64::from(v.verdict.count),
+        u64::from(v.verdict.check),
+        u64::from(v.regime),
         v.moment,
         v.shear,
     ];
-    let written = write_numbers(answer, &numbers);
-    match written {
-        Outcome::Refused(refusal) => refusal_code(refusal),
-        Outcome::Done => if passes { 0 } else { 1 },
-    }
+    write_numbers(answer, &numbers)
 }

@@ -1,125 +1,69 @@
 // The host's floor beam, cell by cell: loads and span, and the five cells of a row.
-ghost use Rattle.std.specs.Prelude.{◌≡◌, length};
-ghost use Rattle.worksheet.specs.Reading.{is_unreadable, cell_read};
-ghost use Rattle.floorrules.specs.HostBeam.{host_loading, host_beam_cells};
-ghost use Rattle.floorhost.specs.Reads.{loading_read, first_unreadable, cells_read};
+ghost use Rattle.std.specs.Prelude.{◌≡◌, ◌≤◌, length, true, Ok, IfOk, IfErr};
+ghost use Rattle.cells.specs.Refusal.{by_number};
+ghost use Rattle.cells.specs.declared.refusal.Refusal.TheVariants.{Unreadable};
+ghost use Rattle.worksheet.specs.OwnCell.{own_result};
+ghost use Rattle.worksheet.specs.Reading.{read_cell, is_unreadable};
+ghost use Rattle.floorrules.specs.FloorBeam.{beam_answer_result};
+ghost use Rattle.floorrules.specs.HostBeam.{beam_cell_at, load_at, host_loading, host_beam_cells};
 
+use cells::refusal::Refusal;
 use cells::row::Cell;
-use floorloads::loads::loading_in_range;
+use floorloads::loads::Loads;
+use floorrules::answer::BeamRefusal;
 use floorrules::beam::{BeamCells, Loading};
 use reading::host_row::{CELL_BYTES, read_host_cell};
 use reading::own_cell::own_number;
-use worksheet::host_cell::Reading;
-use worksheet::own_cell::OwnNumber;
 
-// The loads and the span of a beam, if they are there and within their ranges.
-#[derive(Clone, Copy)]
-pub enum ReadLoading {
-    Accepted(Loading),
-    Refused,
+// The number in a place of the beam, counted in cells. The places are those of the host's 72 bytes.
+fn load_at(beam: &[u8], place: usize) -> Result<u64, BeamRefusal>
+    requires { (length beam.now ≡ 72) × (place ≤ 7) }
+    ensures { beam_answer_result result ≡ own_result 8 (load_at beam.now place) }
+{
+    own_number(beam, CELL_BYTES * place).ok_or(BeamRefusal::LoadOrSpan)
 }
 
-// The number of the lowest cell that is unreadable, 0 where none is, and the cells as they were read.
-#[derive(Clone, Copy)]
-pub struct ReadBeamCells {
-    pub unreadable: u32,
-    pub typed: BeamCells,
+// The cell in a place of the beam, as in `load_at`. A refusal names it by its number in the row, `n`.
+fn cell_at(beam: &[u8], place: usize, n: u32) -> Result<Cell, Refusal>
+    requires { (length beam.now ≡ 72) × (place ≤ 7) }
+    ensures ok { IfOk result (λ cell. read_cell (beam_cell_at beam.now place) ≡ Ok cell) }
+    ensures err { IfErr result (λ e. (e ≡ Unreadable n) × (is_unreadable (read_cell (beam_cell_at beam.now place)) ≡ true)) }
+{
+    read_host_cell(beam, CELL_BYTES * place).map_err(|_| Refusal::Unreadable(n))
 }
 
 // The loads and the span in a beam of 72 bytes.
-pub(crate) fn read_loading(beam: &[u8]) -> ReadLoading
+pub(crate) fn read_loading(beam: &[u8]) -> Result<Loading, BeamRefusal>
     requires { length beam.now ≡ 72 }
-    ensures { loading_read result ≡ host_loading beam.now }
+    ensures { beam_answer_result result ≡ host_loading beam.now }
 {
-    let first = own_number(beam, 0);
-    let OwnNumber::Given(lasting) = first else {
-        return ReadLoading::Refused;
-    };
-    let second = own_number(beam, CELL_BYTES);
-    let OwnNumber::Given(remaining) = second else {
-        return ReadLoading::Refused;
-    };
-    let third = own_number(beam, 2 * CELL_BYTES);
-    let OwnNumber::Given(span) = third else {
-        return ReadLoading::Refused;
-    };
-    let loading = Loading {
+    let lasting = load_at(beam, 0)?;
+    let remaining = load_at(beam, 1)?;
+    let span = load_at(beam, 2)?;
+    let loads = Loads::try_from(Loading {
         lasting,
         remaining,
         span,
-    };
-    if loading_in_range(loading) {
-        ReadLoading::Accepted(loading)
-    } else {
-        ReadLoading::Refused
-    }
+    })?;
+    Ok(loads.loading)
 }
 
-// Whether a cell is unreadable.
-fn is_unreadable(reading: Reading) -> bool
-    ensures { result ≡ is_unreadable reading }
-{
-    match reading {
-        Reading::Read(_) => false,
-        Reading::Unreadable => true,
-    }
-}
-
-// The cell that was read, blank where it is unreadable.
-fn cell_read(reading: Reading) -> Cell
-    ensures { result ≡ cell_read reading }
-{
-    match reading {
-        Reading::Read(cell) => cell,
-        Reading::Unreadable => Cell::Blank,
-    }
-}
-
-// The lowest of cells 2 and 4 to 7 that is unreadable, 0 where none is.
-fn first_unreadable(
-    grade: Reading,
-    moisture: Reading,
-    office: Reading,
-    width: Reading,
-    height: Reading,
-) -> u32
-    ensures { result ≡ first_unreadable grade moisture office width height }
-{
-    if is_unreadable(grade) {
-        return 2;
-    }
-    if is_unreadable(moisture) {
-        return 4;
-    }
-    if is_unreadable(office) {
-        return 5;
-    }
-    if is_unreadable(width) {
-        return 6;
-    }
-    if is_unreadable(height) {
-        return 7;
-    }
-    0
-}
-
-// The five cells in a beam of 72 bytes.
-pub(crate) fn read_beam_cells(beam: &[u8]) -> ReadBeamCells
+// The five cells in a beam of 72 bytes, the lowest first: it is named where several are unreadable.
+#[tactic(auto, unfolding(cells::specs::Lowest::lowest))]
+pub(crate) fn read_beam_cells(beam: &[u8]) -> Result<BeamCells, Refusal>
     requires { length beam.now ≡ 72 }
-    ensures { cells_read result ≡ host_beam_cells beam.now }
+    ensures { by_number result ≡ host_beam_cells beam.now }
 {
-    let grade = read_host_cell(beam, 3 * CELL_BYTES);
-    let moisture = read_host_cell(beam, 4 * CELL_BYTES);
-    let office = read_host_cell(beam, 5 * CELL_BYTES);
-    let width = read_host_cell(beam, 6 * CELL_BYTES);
-    let height = read_host_cell(beam, 7 * CELL_BYTES);
-    let typed = BeamCells {
-        grade: cell_read(grade),
-        moisture: cell_read(moisture),
-        office: cell_read(office),
-        width: cell_read(width),
-        height: cell_read(height),
-    };
-    let unreadable = first_unreadable(grade, moisture, office, width, height);
-    ReadBeamCells { unreadable, typed }
+    let grade = cell_at(beam, 3, 2)?;
+    let moisture = cell_at(beam, 4, 4)?;
+    let office = cell_at(beam, 5, 5)?;
+    let width = cell_at(beam, 6, 6)?;
+    let height = cell_at(beam, 7, 7)?;
+    Ok(BeamCells {
+        grade,
+        moisture,
+        office,
+        width,
+        height,
+    })
 }
