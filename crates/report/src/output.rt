@@ -1,39 +1,30 @@
 // All lines for an input, one after another.
 ghost use Rattle.std.specs.Prelude.{◌≡◌, ◌++◌, ◌+◌, ◌≤◌, min, length, take, drop};
-ghost use Rattle.std.proofs.Math.Seq.{paste};
 ghost use Rattle.io.specs.Counts.{IsPrefixLen};
 ghost use Rattle.lines.specs.Output.{most_input, output, joined, room_for};
 
 use crate::line::line_at;
-use lines::text::Line;
 
 // At most this many bytes of an input are taken in.
-const MOST_INPUT: usize = 65536;
+pub const MOST_INPUT: usize = 65536;
 
 // Writes a line's text from a place on.
-fn put_line(line: Line, out: &mut [u8], at: usize)
-    requires { (line.len ≤ length line.text) × (at + line.len ≤ length out.old) }
-    ensures { out.new ≡ paste out.old at line.text line.len }
+fn put_line(text: &[u8], out: &mut [u8], at: usize)
+    requires { at + length text.now ≤ length out.old }
+    ensures { out.new ≡ take at out.old ++ text.now ++ drop (at + length text.now) out.old }
 {
-    let text = line.text;
-    let mut i: usize = 0;
-    while i < line.len {
-        out[at + i] = text[i];
-        i = i + 1;
-    }
+    out[at..at + text.len()].copy_from_slice(text);
 }
 
 // What is taken in of an input: the rest is ignored.
 fn taken_in(input: &[u8]) -> &[u8]
     ensures { result.now ≡ take most_input input.now }
 {
-    if input.len() <= MOST_INPUT {
-        return input;
-    }
-    &input[..MOST_INPUT]
+    &input[..MOST_INPUT.min(input.len())]
 }
 
-// Writes the lines for an input, and answers how many bytes they are.
+// Writes the lines for an input into lent bytes, since the program has fixed memory, and answers how many bytes they are. No `for`: only
+// the row itself tells where the next one starts.
 pub fn write_lines(input: &[u8], out: &mut [u8]) -> usize
     requires { room_for (min most_input (length input.now)) ≤ length out.old }
     ensures count { result ≡ length (joined (output input.now)) }
@@ -46,11 +37,11 @@ pub fn write_lines(input: &[u8], out: &mut [u8]) -> usize
     let mut len: usize = 0;
     while at < input.len() {
         let step = line_at(input, at, number);
-        let line = step.line;
-        put_line(line, out, len);
-        len = len + line.len;
+        let text = step.line.as_slice();
+        put_line(text, out, len);
+        len += text.len();
         at = step.next;
-        number = number + 1;
+        number += 1;
     }
     len
 }

@@ -1,8 +1,8 @@
 // What a disk says of lines only after it has taken them.
-use std::fs;
 use std::fs::{File, OpenFile};
 use std::io::{Error, ErrorKind};
 use std::rt::Files;
+use std::{fs, io};
 
 // Standard output by a name of the system's: only a file that is opened by its name can be synced.
 const OUTPUT: &str = "/proc/self/fd/1";
@@ -22,13 +22,13 @@ fn is_loss(error: &Error) -> bool {
     kind != ErrorKind::InvalidInput && kind != ErrorKind::Unsupported
 }
 
-// Whether lines that the disk had taken are lost: one on a network may say only later that it was full.
-pub(crate) fn has_lost<F: Files>(files: &F) -> bool {
-    match output_file(files) {
-        Some(file) => match file.sync_data() {
-            Ok(()) => false,
-            Err(error) => is_loss(&error),
-        },
-        None => false,
+// Fails where lines that the disk had taken are lost: one on a network may say only later that it was full.
+pub(crate) fn sync<F: Files>(files: &F) -> io::Result<()> {
+    let Some(file) = output_file(files) else {
+        return Ok(());
+    };
+    match file.sync_data() {
+        Err(error) if is_loss(&error) => Err(error),
+        _ => Ok(()),
     }
 }

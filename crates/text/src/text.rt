@@ -1,65 +1,70 @@
-// A line of text, put together by value.
-ghost use Rattle.std.specs.Prelude.{◌≡◌, ◌∷◌, [], ◌++◌, length};
+// A line of text, put together field after field.
+ghost use Rattle.std.specs.Prelude.{◌≡◌, ℕ, List, [], ◌++◌, length};
 ghost use Rattle.lines.specs.Text.{decimal, field, line_of, text_of};
 ghost use Rattle.text.specs.Room.{HasRoom};
 
-use lines::text::{LINE, Line};
+use arrayvec::ArrayVec;
+use itoa::Buffer;
+use lines::text::Line;
 
+// The library's `new`, with a contract in the terms of a line.
 pub fn empty() -> Line
     ensures { result ≡ line_of [] }
 {
-    Line {
-        text: [0; LINE],
-        len: 0,
+    ArrayVec::new()
+}
+
+// What a field of a line can hold: bytes, a word or a number.
+pub trait Field {
+    // its bytes
+    ghost text: { Self → List ℕ };
+
+    // Puts it after the line's text. Not `write!`: what that ensures of a text of fixed room is for `Ok` alone, and no clause says that
+    // it is `Ok` where there is room. A line always has room, and what is proved of it is not that it may fail.
+    fn put(self, line: &mut Line)
+        requires { HasRoom line.old (length (text self)) }
+        ensures { line.new ≡ line_of (text_of line.old ++ text self) };
+}
+
+impl Field for &[u8] {
+    ghost text = { λ word. word.now };
+
+    fn put(self, line: &mut Line) {
+        let _ = line.try_extend_from_slice(self);
     }
 }
 
-pub fn with_byte(line: Line, byte: u8) -> Line
-    requires { HasRoom line 1 }
-    ensures { result ≡ line_of (text_of line ++ (byte ∷ [])) }
-{
-    let at = line.len;
-    let mut longer = line;
-    longer.text[at] = byte;
-    longer.len = at + 1;
-    longer
-}
+impl Field for &str {
+    ghost text = { λ word. word.now };
 
-fn with_text(line: Line, text: &[u8]) -> Line
-    requires { HasRoom line (length text.now) }
-    ensures { result ≡ line_of (text_of line ++ text.now) }
-{
-    let mut longer = line;
-    let mut i: usize = 0;
-    while i < text.len() {
-        longer = with_byte(longer, text[i]);
-        i = i + 1;
+    fn put(self, line: &mut Line) {
+        self.as_bytes().put(line);
     }
-    longer
 }
 
-// A number after the line's text.
-pub fn with_number(line: Line, n: u64) -> Line
-    requires { HasRoom line (length (decimal n)) }
-    ensures { result ≡ line_of (text_of line ++ decimal n) }
-{
-    let mut digits = [0u8; 20];
-    let count = io::decimal(n, &mut digits);
-    with_text(line, &digits[..count])
+impl Field for u64 {
+    ghost text = { decimal };
+
+    #[tactic(auto, using(crate::proofs::DecimalLaws::decimal_lem))]
+    fn put(self, line: &mut Line) {
+        let mut digits = Buffer::new();
+        digits.format(self).put(line);
+    }
 }
 
-// A word as the line's next field.
-pub fn with_word_field(line: Line, word: &[u8]) -> Line
-    requires { HasRoom line (length (field word.now)) }
-    ensures { result ≡ line_of (text_of line ++ field word.now) }
-{
-    with_text(with_byte(line, b' '), word)
+impl Field for u32 {
+    ghost text = { decimal };
+
+    fn put(self, line: &mut Line) {
+        u64::from(self).put(line);
+    }
 }
 
-// A number as the line's next field.
-pub fn with_number_field(line: Line, n: u32) -> Line
-    requires { HasRoom line (length (field (decimal n))) }
-    ensures { result ≡ line_of (text_of line ++ field (decimal n)) }
+// A word or a number as the line's next field.
+pub fn put_field<T: Field>(line: &mut Line, value: T)
+    requires { HasRoom line.old (length (field (T.text value))) }
+    ensures { line.new ≡ line_of (text_of line.old ++ field (T.text value)) }
 {
-    with_number(with_byte(line, b' '), n as u64)
+    line.push(b' ');
+    value.put(line);
 }
