@@ -208,8 +208,8 @@
  * Windows or macOS (other object files and conventions), on ARM, or in 32-bit
  * programs.
  *
- * Stack: lvl_check_row 696 bytes, lvl_strengths 744 bytes, lvl_pack_row 936
- * bytes, lvl_check_floor_beam 840 bytes. No heap, no system call, no lock, and
+ * Stack: lvl_check_row 680 bytes, lvl_strengths 728 bytes, lvl_pack_row 424
+ * bytes, lvl_check_floor_beam 776 bytes. No heap, no system call, no lock, and
  * no data of its own that it writes.
  *
  * Threads: any number may call at once, each with a buffer of its own to write
