@@ -58,7 +58,8 @@ impl AsFloat for u64 {
     }
 }
 
-// Fills lent bytes with values as floats, eight bytes each, the lowest first; refuses another length and writes nothing.
+// Fills lent bytes with values as floats, eight bytes each, the lowest first; refuses another length and writes nothing. Two tests: eight has to divide the
+// length, and the count has to be that of the values.
 fn write_each<X: AsFloat>(out: &mut [u8], values: &[X]) -> Result<(), Refusal>
     requires { All X.can values.now }
     ensures result { result_of result tt ≡ floats_result (length values.now) (length out.old) }

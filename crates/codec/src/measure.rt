@@ -22,7 +22,7 @@ fn bit_count(cell: Cell) -> usize
 }
 
 // The bits of cells, unless one of them is too wide: then the lowest such cell. One loop for the sum and the search: a chain for each would go over the cells twice. `as`: a
-// place is below 22.
+// place is below 22, and `TryFrom` would bring an error that cannot be.
 pub fn measure(cells: &[Cell]) -> Result<usize, Refusal>
     requires { length cells.now ≤ cell_count }
     ensures { result ≡ measure_of cells.now }

@@ -16,7 +16,8 @@ pub struct UnpackedRow {
     pub bytes: usize,
 }
 
-// Unpacks n cells into the first cells of a row. n is no length of what is lent: the row is made here. `as`: a place is below 22.
+// Unpacks n cells into the first cells of a row. n is no length of what is lent: the row is made here. `as`: a place is below 22,
+// and `TryFrom` would bring an error that cannot be.
 pub fn unpack_cells(bytes: &[u8], n: usize) -> Result<UnpackedRow, Refusal>
     requires { n ≤ cell_count }
     ensures result { map_given (λ it. (take n (cells_of it.row), it.bytes)) (by_number result) ≡ unpacked n bytes.now }

@@ -21,7 +21,8 @@ pub(crate) fn read_cell(cell: HostCell) -> Reading
     }
 }
 
-// The reading of the cell in a place of a row; where it is unreadable, the refusal that names it. `as`: a place is below 22.
+// The reading of the cell in a place of a row; where it is unreadable, the refusal that names it. `as`: a place is below 22, and `TryFrom`
+// would bring an error that cannot be.
 fn read_in_place(cell: HostCell, i: usize) -> Result<Cell, Refusal>
     requires { i < cell_count }
     ensures { result ≡ or_named (i + 1) (read_cell cell) }

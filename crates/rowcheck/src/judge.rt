@@ -76,7 +76,7 @@ impl KnownMember {
         Some(YesNoCheck::Slenderness(across))
     }
 
-    // Checks 9 and 10, with nr in compression.
+    // Checks 9 and 10, with nr in compression. Its range stays a clause, as in `checks`: it is one number.
     fn buckling(self, across: Across, nr: u64) -> Governing
         requires lengths { required self.member.kind 11 ≡ true }
         requires resistance { InNR nr }
