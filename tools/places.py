@@ -47,35 +47,42 @@ def bare_enums():
     return [(n, name) for n, name, _, derive in blocks("enum") if "PartialEq" not in derive]
 
 
+def functions():
+    """Each function: its file, its name, and the text from its parameters to its body."""
+    return [(n, m.group(1), m.group(2)) for n, t in CODE.items() for m in FUNCTION.finditer(t)]
+
+
+def in_three(found):
+    """Of pairs of a thing and the function that has it: the things that three functions or more have."""
+    where = {}
+    for thing, name in found:
+        where.setdefault(thing, []).append(name)
+    return [(thing, f"{len(at)} functions") for thing, at in sorted(where.items()) if len(at) >= 3]
+
+
 def facts():
     """Named facts in the contracts of three functions or more."""
-    where = {}
-    for n, t in CODE.items():
-        for m in FUNCTION.finditer(t):
-            clauses = "\n".join(l for l in m.group(2).split("\n") if re.search(r"^ +(requires|ensures|×)", l))
-            for fact in set(re.findall(r"\b(?:In[A-Z]\w+|\w+Ranges|RangesOf|Section|Layout|HasRoom)\b", clauses)):
-                where.setdefault(fact, []).append((n, m.group(1)))
-    return [(fact, f"{len(at)} functions") for fact, at in sorted(where.items()) if len(at) >= 3]
+    found = []
+    for _, name, head in functions():
+        clauses = "\n".join(l for l in head.split("\n") if re.search(r"^ +(requires|ensures|×)", l))
+        named = set(re.findall(r"\b(?:In[A-Z]\w+|\w+Ranges|RangesOf|Section|Layout|HasRoom)\b", clauses))
+        found += [(fact, name) for fact in named]
+    return in_three(found)
 
 
 def asked():
     """Functions with a `requires`."""
-    return [(n, m.group(1)) for n, t in CODE.items() for m in FUNCTION.finditer(t) if "requires" in m.group(2)]
+    return [(n, name) for n, name, head in functions() if "requires" in head]
 
 
 def together():
     """Pairs of parameters, by name and type, in three signatures or more."""
-    where = {}
-    for n, t in CODE.items():
-        for m in FUNCTION.finditer(t):
-            inside = re.search(r"\((.*?)\)\s*(?:->|\n|$)", m.group(2), re.S)
-            if not inside:
-                continue
-            given = sorted(set(re.findall(r"(\w+: [&\w\[\] ]+)", inside.group(1))))
-            for i, a in enumerate(given):
-                for b in given[i + 1:]:
-                    where.setdefault((a, b), []).append(m.group(1))
-    return [(" and ".join(pair), ", ".join(at)) for pair, at in sorted(where.items()) if len(at) >= 3]
+    found = []
+    for _, name, head in functions():
+        inside = re.search(r"\((.*?)\)\s*(?:->|\n|$)", head, re.S)
+        given = sorted(set(re.findall(r"(\w+: [&\w\[\] ]+)", inside.group(1)))) if inside else []
+        found += [(f"{a} and {b}", name) for i, a in enumerate(given) for b in given[i + 1:]]
+    return in_three(found)
 
 
 def proofs(pattern):
