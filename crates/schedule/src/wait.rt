@@ -1,5 +1,5 @@
 // The wait before a call is made again.
-ghost use Rattle.std.specs.Prelude.{◌<◌, OnOk};
+ghost use Rattle.std.specs.Prelude.{◌≡◌, ◌<◌, OnOk};
 
 use crate::attempt::CallError;
 use std::rt::Clock;
@@ -14,7 +14,9 @@ pub struct Waits {
 }
 
 impl Waits {
-    pub fn new() -> Self {
+    pub fn new() -> Self
+        ensures { result.left ≡ 18446744073709551615 }
+    {
         Waits { left: u64::MAX }
     }
 
