@@ -1,4 +1,5 @@
-// Accept a row: the member that it describes, or why it is refused.
+// Accept a row: the member that it describes, or why it is refused. All of this crate is written out where it is called (`inline(always)`): a call of any part would be handed a row
+// or a member through memory, copied by a call of `memcpy`, and the archive is to call nothing (decision 170).
 ghost use Rattle.std.specs.Prelude.{◌≡◌};
 ghost use Rattle.cells.specs.Refusal.{by_number};
 ghost use Rattle.cells.specs.Row.{cells_of};
@@ -13,6 +14,7 @@ use member::kind::Kind;
 use member::member::Member;
 
 // Refusals 2, 3 and 4 of a row of a known kind, otherwise the member. Three tests and no `?`: none is the good case here, so that there is nothing to hand on.
+#[inline(always)]
 fn accept_kind(kind: Kind, row: Row) -> Result<Member, Refusal>
     ensures { by_number result ≡ accept_kind kind (cells_of row) }
 {
@@ -30,6 +32,7 @@ fn accept_kind(kind: Kind, row: Row) -> Result<Member, Refusal>
 }
 
 // "Check a row", its refusals 2, 3 and 4: the member that a row describes, or a refusal by number and cell.
+#[inline(always)]
 pub fn accept_row(row: Row) -> Result<Member, Refusal>
     ensures { by_number result ≡ accept (cells_of row) }
 {

@@ -12,6 +12,7 @@ use strength::design::material_of;
 
 // The values of a row's cells. A loop, since `row.cells.map(..)` goes through an iterator that owns the cells: accepting a row then took 1,240 instructions
 // instead of 640.
+#[inline(always)]
 pub fn values_of(row: Row) -> [u64; CELLS]
     ensures { result ≡ values_of (cells_of row) }
 {
@@ -23,6 +24,7 @@ pub fn values_of(row: Row) -> [u64; CELLS]
 }
 
 // Cells 14 to 22 by name.
+#[inline(always)]
 fn joint_of(values: [u64; CELLS]) -> Joint
     ensures { result ≡ joint_of values }
 {
@@ -40,6 +42,7 @@ fn joint_of(values: [u64; CELLS]) -> Joint
 }
 
 // A row's cells by name, from their values.
+#[inline(always)]
 pub fn member_of(kind: Kind, jointed: bool, values: [u64; CELLS]) -> Member
     ensures { result ≡ member_of kind jointed values }
 {
@@ -48,6 +51,7 @@ pub fn member_of(kind: Kind, jointed: bool, values: [u64; CELLS]) -> Member
     Member {
         kind,
         material,
+        regime: values[2],
         width: values[5],
         height: values[6],
         force: values[7],

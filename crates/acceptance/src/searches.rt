@@ -12,6 +12,7 @@ use std::ops::Range;
 
 // The lowest cell of which a test is true, of those of a part; cell 1 has place 0. By place, since over the slice
 // of a part an iterator counts from 0 again. `as`: a place is below 22, and `TryFrom` would bring an error that cannot be.
+#[inline(always)]
 fn lowest_in<F: Fn(NumberedCell) -> bool>(row: Row, part: Range<usize>, test: F) -> Option<u32>
     requires inside { part.end ≤ cell_count }
     requires callable { F.IsAlwaysCallable test }
@@ -30,6 +31,7 @@ fn lowest_in<F: Fn(NumberedCell) -> bool>(row: Row, part: Range<usize>, test: F)
 }
 
 // Whether a row has begun a joint.
+#[inline(always)]
 pub fn is_begun(kind: Kind, row: Row) -> bool
     ensures { result ≡ is_begun kind (cells_of row) }
 {
@@ -38,6 +40,7 @@ pub fn is_begun(kind: Kind, row: Row) -> bool
 
 // The lowest cell that is blank or filled against its kind. The cells of a joint are a part of their own, so that the compiler writes both
 // parts out, with what a kind fills in them.
+#[inline(always)]
 pub fn lowest_misfilled(kind: Kind, begun: bool, row: Row) -> Option<u32>
     ensures { result ≡ cell_found (lowest_cell (misfilled kind begun) (cells_of row)) }
 {
@@ -46,6 +49,7 @@ pub fn lowest_misfilled(kind: Kind, begun: bool, row: Row) -> Option<u32>
 }
 
 // The lowest cell with an unknown code. Only cells 2, 3 and 13 have codes.
+#[inline(always)]
 pub fn lowest_unknown(kind: Kind, row: Row) -> Option<u32>
     ensures { result ≡ cell_found (lowest_cell (unknown_code kind) (cells_of row)) }
 {
@@ -54,6 +58,7 @@ pub fn lowest_unknown(kind: Kind, row: Row) -> Option<u32>
 }
 
 // The lowest cell with a value outside its range. Parts of at most ten cells, which the compiler writes out with the ranges in them.
+#[inline(always)]
 pub fn lowest_outside(row: Row) -> Option<u32>
     ensures { result ≡ cell_found (lowest_cell out_of_range (cells_of row)) }
 {

@@ -16,7 +16,6 @@ use Rattle.cells.proofs.LowestLaws.{lowest_none, lowest_of_passing}
 use Rattle.sp64.specs.Joint.{JointRanges}
 use Rattle.sp64.specs.Strength.{material_of}
 use Rattle.sp64.specs.Tables.{slenderness_limit}
-use Rattle.sp64.specs.declared.strength.Material.{Material}
 use Rattle.sp64.proofs.StrengthLaws.{material_known}
 use Rattle.sp64.proofs.TableLaws.{limit_in}
 use Rattle.member.specs.Acceptance.{begins, misfilled, unknown_code, out_of_range, lowest_cell, is_begun, unless_refused, accept_kind, accept_code, accept_first, accept}
@@ -226,22 +225,26 @@ accepted_member kind cells m =
     given : gives here ≡ gives m → m ≡ here
     given e = cc
 
--- the material of an accepted row follows from cells 2 to 5
-pub accepted_material : (cells : List Cell) (m : Member) → accept cells ≡ gives m
-    → m.material ≡ material_of (value_at (values_of cells) 2) (value_at (values_of cells) 3) (value_at (values_of cells) 4) (value_at (values_of cells) 5)
-accepted_material cells m = by (get_or cells 0 None)
+-- an accepted member is its row's cells by name, for its kind and whether it has a joint
+pub accepted_by_name : (cells : List Cell) (m : Member) → accept cells ≡ gives m → m ≡ member_of m.kind m.jointed (values_of cells)
+accepted_by_name cells m = by (get_or cells 0 None)
   where
-    -- it is the same in every kind
-    here : Material
-    here = (member_of Tension false (values_of cells)).material
-
-    by_code : (code : Option Kind) → accept_code code cells ≡ gives m → m.material ≡ here
+    by_code : (code : Option Kind) → accept_code code cells ≡ gives m → m ≡ member_of m.kind m.jointed (values_of cells)
     by_code None e = absurd (let z : ◌≡◌ {A = ℕ} 0 1 = cc in omega arith)
-    by_code (Some kind) e = ap (λ (m : Member). m.material) (accepted_member kind cells m e)
+    by_code (Some kind) e = rw (accepted_member kind cells m e)
 
-    by : (first : Cell) → accept_first first cells ≡ gives m → m.material ≡ here
+    by : (first : Cell) → accept_first first cells ≡ gives m → m ≡ member_of m.kind m.jointed (values_of cells)
     by None e = absurd (let z : ◌≡◌ {A = ℕ} 0 1 = cc in omega arith)
     by (Some code) e = by_code (kind_of code) e
+
+-- so its material follows from cells 2 to 5
+pub accepted_material : (cells : List Cell) (m : Member) → accept cells ≡ gives m
+    → m.material ≡ material_of (value_at (values_of cells) 2) (value_at (values_of cells) 3) (value_at (values_of cells) 4) (value_at (values_of cells) 5)
+accepted_material cells m e = ap (λ (m : Member). m.material) (accepted_by_name cells m e)
+
+-- and its regime is cell 3
+pub accepted_regime : (cells : List Cell) (m : Member) → accept cells ≡ gives m → m.regime ≡ value_at (values_of cells) 3
+accepted_regime cells m e = ap (λ (m : Member). m.regime) (accepted_by_name cells m e)
 
 -- what a result of acceptance promises: a member that keeps its ranges
 abbrev RangesKept : Result Member → Type 0

@@ -52,6 +52,7 @@ with_forces N M Q m =
     record {
       kind = m.kind;
       material = m.material;
+      regime = m.regime;
       width = m.width;
       height = m.height;
       force = N;

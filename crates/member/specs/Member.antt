@@ -45,6 +45,7 @@ member_of kind jointed values =
     record {
       kind = kind;
       material = material_of (value_at values 2) (value_at values 3) (value_at values 4) (value_at values 5);
+      regime = value_at values 3;
       width = value_at values 6;
       height = value_at values 7;
       force = value_at values 8;

@@ -9,6 +9,8 @@ pub struct Member {
     pub kind: Kind,
     // cells 2 to 5
     pub material: Material,
+    // Cell 3 itself: the material has t alone, from which the regime does not follow.
+    pub regime: u64,
     // b and h
     pub width: u64,
     pub height: u64,

@@ -36,7 +36,7 @@ pub regime_i : duration_factor 8 ≡ 110
 regime_i = refl
 
 -- each figure of the table lies from lo to hi
-abbrev FiguresIn : ℕ → ℕ → List (ℕ × ℕ) → Type 0
+abbrev pub FiguresIn : ℕ → ℕ → List (ℕ × ℕ) → Type 0
 FiguresIn lo hi [] = Unit
 FiguresIn lo hi (line ∷ lines) = In lo hi line.1 × FiguresIn lo hi lines
 
@@ -45,7 +45,7 @@ cond_in true i f known = i
 cond_in false i f known = f known
 
 -- the figure of a known code lies from lo to hi
-listed_in : {lo hi : ℕ} (lines : List (ℕ × ℕ)) (code : ℕ) → FiguresIn lo hi lines → 0 < look_up lines code → In lo hi (look_up lines code)
+pub listed_in : {lo hi : ℕ} (lines : List (ℕ × ℕ)) (code : ℕ) → FiguresIn lo hi lines → 0 < look_up lines code → In lo hi (look_up lines code)
 listed_in [] code f known = absurd (omega arith)
 listed_in (line ∷ lines) code f known = cond_in (eqb code line.0) f.0 (listed_in lines code f.1) known
 

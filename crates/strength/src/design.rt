@@ -10,7 +10,8 @@ use sp64::strength::{DesignStrength, Material};
 use sp64::tables::Stress;
 
 // The material that cells 2 to 5 give, by their codes: numbers as in `tables`, of which an unknown regime gives 0 for t. No `From`: four numbers in a tuple would have
-// no names.
+// no names. Written out where it is called, as acceptance is (decision 170).
+#[inline(always)]
 pub fn material_of(grade: u64, regime: u64, percent: u64, office: u64) -> Material
     ensures { result ≡ material_of grade regime percent office }
 {
