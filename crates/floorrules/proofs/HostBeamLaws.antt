@@ -14,12 +14,12 @@ use Rattle.rounding.specs.Range.{In}
 use Rattle.cells.specs.Lowest.{lowest}
 use Rattle.cells.specs.Refusal.{Result, gives, refuses, and_then, value_or}
 use Rattle.cells.specs.Row.{cell_count, Cell}
-use Rattle.cells.proofs.ResultLaws.{then_given}
 use Rattle.member.specs.declared.check.Check.{Check}
 use Rattle.member.specs.Demand3.{kept_from, EachFrom}
 use Rattle.member.specs.Verdict.{verdict}
 use Rattle.worksheet.specs.OwnCell.{own_result}
 use Rattle.worksheet.specs.Reading.{read_cell, is_unreadable, lowest_unreadable, read_cells}
+use Rattle.worksheet.proofs.OwnCellMeaning.{three_given, tested}
 use Rattle.worksheet.proofs.ReadingLaws.{as_read}
 use Rattle.worksheet.proofs.RefusalNumbers.{Numbered}
 use Rattle.floorrules.specs.FloorBeam.{accept_loading, besides, floor_beam}
@@ -36,23 +36,14 @@ use Rattle.floorrules.proofs.FloorDemand.{verdict_keeps, floor_gives}
 
 -- loads that are accepted are within their ranges
 accepted_within : (l l' : Loading) → accept_loading l ≡ gives l' → loading_in_range l' ≡ true
-accepted_within l l' e = by (loading_in_range l) refl
-  where
-    by : (t : Bool) → loading_in_range l ≡ t → loading_in_range l' ≡ true
-    by true within =
-        let given : accept_loading l ≡ gives l = rw within in
-        let same : l ≡ l' = cc in
-        subst (λ (x : Loading). loading_in_range x ≡ true) same within
-    by false outside =
-        let refused : accept_loading l ≡ refuses 8 0 = rw outside in
-        absurd (let z : ◌≡◌ {A = ℕ} 0 1 = cc in omega arith)
+accepted_within l l' e =
+    let within = tested 8 0 (loading_in_range l) l l' e in
+    subst (λ (x : Loading). loading_in_range x ≡ true) within.1 within.0
 
 loading_within : (a b c : Option ℕ) (l : Loading) → loading_of a b c ≡ gives l → loading_in_range l ≡ true
 loading_within a b c l e =
-    let first = then_given (own_result 8 a) _ l e in
-    let second = then_given (own_result 8 b) _ l first.2 in
-    let third = then_given (own_result 8 c) _ l second.2 in
-    accepted_within (loads first.0 second.0 third.0) l third.2
+    let three = three_given 8 a b c _ l e in
+    accepted_within (loads three.0 three.1 three.2) l three.3
 
 -- loads and cells that were read were each given
 both_given : (loading : Result Loading) (typed : Result BeamCells) (l : Loading) (cells : BeamCells) → loads_then_cells loading typed ≡ gives (l, cells)

@@ -11,7 +11,7 @@ use lib.Dec.{eqb, lit<}
 use lib.Ieee.{of_bits}
 use lib.Ieee.Exact.{HasValue}
 use lib.ListN.{length, get_or}
-use Rattle.std.specs.Prelude.{Option, Some, None}
+use Rattle.std.specs.Prelude.{Option}
 use Rattle.rounding.specs.Fraction.{◌≼◌}
 use Rattle.cells.specs.HostBytes.{float_at}
 use Rattle.cells.specs.Lowest.{lowest}
@@ -27,7 +27,7 @@ use Rattle.worksheet.specs.Number.{read_number, read_fraction}
 use Rattle.worksheet.specs.Reading.{read_cell}
 use Rattle.worksheet.proofs.EntryMeaning.{WasRefused, from_1000, untouched, verdict_few, passed, not_passed}
 use Rattle.worksheet.proofs.FloatsMeaning.{number_held}
-use Rattle.worksheet.proofs.OwnCellMeaning.{HoldsNone, own_missing}
+use Rattle.worksheet.proofs.OwnCellMeaning.{HoldsNone, OneMissing, three_missing, three_none}
 use Rattle.worksheet.proofs.ReadingMeaning.{bad_tag_unreadable, blank_whatever_follows}
 use Rattle.worksheet.proofs.RefusalNumbers.{Numbered}
 use Rattle.floorrules.specs.BeamRow.{beam_row}
@@ -181,12 +181,8 @@ pub another_beam_length : (beam : List ℕ) (room : ℕ) → (length beam ≡ 72
 another_beam_length beam room other = rw (ne_eqb _ _ other)
 
 -- a load or span that is missing
-pub one_missing : (a b c : Option ℕ) → (a ≡ None) ⊎ ((b ≡ None) ⊎ (c ≡ None)) → loading_of a b c ≡ refuses 8 0
-one_missing a b c (inl e) = rw e
-one_missing None b c (inr none) = refl
-one_missing (Some lasting) b c (inr (inl e)) = rw e
-one_missing (Some lasting) None c (inr (inr e)) = refl
-one_missing (Some lasting) (Some remaining) c (inr (inr e)) = rw e
+pub one_missing : (a b c : Option ℕ) → OneMissing a b c → loading_of a b c ≡ refuses 8 0
+one_missing a b c = three_missing 8 a b c _
 
 -- in a beam of 72 bytes
 module _ (beam : List ℕ) (room : ℕ) (whole : length beam ≡ 72) where
@@ -197,13 +193,7 @@ module _ (beam : List ℕ) (room : ℕ) (whole : length beam ≡ 72) where
   -- a load or span that is blank or unreadable is refusal 8, cell 0
   pub missing_load : HoldsNone (read_cell (beam_cell_at beam 0)) ⊎ (HoldsNone (read_cell (beam_cell_at beam 1)) ⊎ HoldsNone (read_cell (beam_cell_at beam 2)))
       → host_floor_beam beam room ≡ refuses 8 0
-  missing_load none = loads_before_cells (one_missing (load_at beam 0) (load_at beam 1) (load_at beam 2) (by none))
-    where
-      by : HoldsNone (read_cell (beam_cell_at beam 0)) ⊎ (HoldsNone (read_cell (beam_cell_at beam 1)) ⊎ HoldsNone (read_cell (beam_cell_at beam 2)))
-          → (load_at beam 0 ≡ None) ⊎ ((load_at beam 1 ≡ None) ⊎ (load_at beam 2 ≡ None))
-      by (inl h) = inl (own_missing _ h)
-      by (inr (inl h)) = inr (inl (own_missing _ h))
-      by (inr (inr h)) = inr (inr (own_missing _ h))
+  missing_load none = loads_before_cells (one_missing (load_at beam 0) (load_at beam 1) (load_at beam 2) (three_none none))
 
   -- so is a first byte of 0, whatever follows it, and one above 1: here of the first load
   pub blank_load : get_or beam 0 0 ≡ 0 → host_floor_beam beam room ≡ refuses 8 0

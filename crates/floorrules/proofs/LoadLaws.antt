@@ -4,7 +4,7 @@ use Prim.Native.Nat.{◌*◌}
 use native.Mathlib.Omega.{arith}
 use mathlib.Core.Bool.{true, false}
 use mathlib.Core.Path.{◌≡◌, refl}
-use borrow.Author.Tests.{leb-true, le-leb}
+use borrow.Author.Tests.{le-leb}
 use lib.Dec.{lit<}
 use Rattle.rounding.specs.Fraction.{RoundsUpTo}
 use Rattle.rounding.specs.Range.{In}
@@ -12,6 +12,7 @@ use Rattle.rounding.proofs.Ranges.{in_mul}
 use Rattle.rounding.proofs.RoundingLaws.{rounding_up}
 use Rattle.member.specs.Cells.{in_range}
 use Rattle.member.proofs.AcceptanceLaws.{both_true}
+use Rattle.worksheet.proofs.OwnCellMeaning.{within_range}
 use Rattle.floorrules.specs.Loads.{total_load, loading_in_range, LoadingRanges, moment_of, exact_moment_of, shear_of, exact_shear_of}
 use Rattle.floorrules.specs.WorkedBeams.{loads}
 use Rattle.floorrules.specs.declared.beam.Loading.{Loading}
@@ -28,12 +29,7 @@ module _ (l : Loading) (given : loading_in_range l ≡ true) where
   pub loading_ranges : LoadingRanges l
   loading_ranges =
       let both = both_true _ _ given in
-      let q = both_true _ _ both.0 in
-      let span = both_true _ _ both.1 in
-      record {
-        load = record { low = leb-true _ _ q.0; high = leb-true _ _ q.1 };
-        span = record { low = leb-true _ _ span.0; high = leb-true _ _ span.1 };
-      }
+      record { load = within_range 100 100000 (total_load l) both.0; span = within_range 500 20000 l.span both.1 }
 
   -- M is from 3,125 to 5,000,000,000 N·mm: beyond 32 bits
   pub moment_in : In 3125 5000000000 (moment_of l)

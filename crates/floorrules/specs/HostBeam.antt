@@ -10,8 +10,8 @@ use Rattle.member.specs.declared.member.Member.{Member}
 use Rattle.worksheet.specs.Entries.{pass_or_fail}
 use Rattle.worksheet.specs.HostAnswer.{floats_bytes, floats_result, whole_floats}
 use Rattle.worksheet.specs.HostRow.{host_cell_bytes, host_cell_at}
-use Rattle.worksheet.specs.OwnCell.{own_number, own_result}
-use Rattle.worksheet.specs.Reading.{read_cell, read_cells}
+use Rattle.worksheet.specs.OwnCell.{own_number_at, three_own}
+use Rattle.worksheet.specs.Reading.{read_cells}
 use Rattle.worksheet.specs.declared.host_cell.HostCell.{HostCell}
 use Rattle.worksheet.specs.declared.host_cell.HostCell.TheVariants.{Blank as Empty}
 use Rattle.floorrules.specs.BeamRow.{beam_row}
@@ -33,15 +33,13 @@ beam_cell_at beam place = host_cell_at beam (host_cell_bytes * place)
 
 -- request 1, host: the number in a place of the beam, if it holds one
 abbrev pub load_at : List ℕ → ℕ → Option ℕ
-load_at beam place = own_number (read_cell (beam_cell_at beam place))
+load_at = own_number_at
 
 -- request 1, host: two loads and a span; refusal 8, cell 0, where one is missing (blank or unreadable) or outside its range
 abbrev pub loading_of : Option ℕ → Option ℕ → Option ℕ → Result Loading
 loading_of first second third =
-    and_then (own_result 8 first)
-    (λ (lasting : ℕ). and_then (own_result 8 second)
-    (λ (remaining : ℕ). and_then (own_result 8 third)
-    (λ (span : ℕ). accept_loading (record { lasting = lasting; remaining = remaining; span = span }))))
+    three_own 8 first second third
+    (λ (lasting remaining span : ℕ). accept_loading (record { lasting = lasting; remaining = remaining; span = span }))
 
 -- the loads and the span of the beam
 abbrev pub host_loading : List ℕ → Result Loading

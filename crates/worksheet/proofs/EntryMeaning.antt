@@ -116,27 +116,28 @@ was_judged row answer below = by_read (read_host_row row) refl below
 pub length_last_lem : (row : List ℕ) (room number cell : ℕ) → and_then (read_host_row row) check_row ≡ refuses number cell → host_check row room ≡ refuses number cell
 length_last_lem row room number cell e = rw e
 
--- a verdict's number is below 1000, and tells whether it is a pass
+-- the number for a pass or a fail is below 1000, and tells which it is
+pub flag_few : (passes : Bool) → cond passes 0 1 < 1000
+flag_few true = omega arith
+flag_few false = omega arith
+
+pub flag_passed : (passes : Bool) → ◌≡◌ {A = ℕ} (cond passes 0 1) 0 → passes ≡ true
+flag_passed true z = refl
+flag_passed false z = absurd (omega (arith, z))
+
+pub flag_failed : (passes : Bool) → ◌≡◌ {A = ℕ} (cond passes 0 1) 1 → passes ≡ false
+flag_failed true z = absurd (omega (arith, z))
+flag_failed false z = refl
+
+-- so a verdict's is
 pub verdict_few : (v : Verdict) → pass_or_fail v < 1000
-verdict_few v = by v.passes
-  where
-    by : (t : Bool) → cond t 0 1 < 1000
-    by true = omega arith
-    by false = omega arith
+verdict_few v = flag_few v.passes
 
 pub passed : (v : Verdict) → pass_or_fail v ≡ 0 → v.passes ≡ true
-passed v e = by v.passes e
-  where
-    by : (t : Bool) → ◌≡◌ {A = ℕ} (cond t 0 1) 0 → t ≡ true
-    by true z = refl
-    by false z = absurd (omega (arith, z))
+passed v = flag_passed v.passes
 
 pub not_passed : (v : Verdict) → pass_or_fail v ≡ 1 → v.passes ≡ false
-not_passed v e = by v.passes e
-  where
-    by : (t : Bool) → ◌≡◌ {A = ℕ} (cond t 0 1) 1 → t ≡ false
-    by true z = absurd (omega (arith, z))
-    by false z = refl
+not_passed v = flag_failed v.passes
 
 -- 0 returned: every check that the row has holds with nothing rounded, and the bytes that the host holds are those of the verdict
 pub zero_means : (row answer : List ℕ) → check_returns row (length answer) ≡ 0
