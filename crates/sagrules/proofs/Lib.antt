@@ -1,0 +1,10 @@
+pub mod ElasticityLaws
+pub mod SagLaws
+pub mod SagFormula
+pub mod SagSound
+pub mod SagDemand
+pub mod SagMeaning
+pub mod WorkedLaws
+pub mod DemandRefutes
+pub mod HostSagLaws
+pub mod HostSagMeaning
