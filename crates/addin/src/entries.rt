@@ -1,15 +1,18 @@
-// The entries of the worksheet host: each hands on what it was lent. Four forwards of one form, since C links each by a name of its own. Document 01 has them on
+// The entries of the worksheet host: each hands on what it was lent. Five forwards of one form, since C links each by a name of its own. Document 01 has them on
 // numbers and byte slices, and asks that each tell its whole result: so contracts and demand 3 stand here as they do at the operation.
 ghost use Rattle.std.specs.Prelude.{◌≡◌, length};
 ghost use Rattle.floorrules.specs.Demand.{floor_factor};
 ghost use Rattle.floorrules.specs.HostBeam.{beam_returns, beam_leaves, HostKeepsFloorDemand};
 ghost use Rattle.member.specs.Demand3.{demand_factor};
+ghost use Rattle.sagrules.specs.Demand.{sag_factor};
+ghost use Rattle.sagrules.specs.HostSag.{sag_returns, sag_leaves, HostKeepsSagDemand};
 ghost use Rattle.worksheet.specs.Entries.{check_returns, check_leaves, pack_returns, pack_leaves, HostKeepsDemand3};
 ghost use Rattle.worksheet.specs.Strengths.{strengths_returns, strengths_leaves};
 
 use floorhost::host::check_host_floor_beam;
 use hosting::check::check_host_row;
 use hosting::pack::pack_host_row;
+use saghost::host::check_host_sag;
 use strengths::host::host_strengths;
 
 // Checks the host's row of bytes. Returns 0 for pass, 1 for fail, or 1000 × number + cell.
@@ -48,4 +51,14 @@ pub extern "C" fn lvl_strengths(row: &[u8], answer: &mut [u8]) -> u64
     ensures buffer { answer.new ≡ strengths_leaves row.now answer.old }
 {
     host_strengths(row, answer)
+}
+
+// Judges the sag of the host's row of bytes. Returns 0 for pass, 1 for fail, or 1000 × number + cell.
+#[unsafe(no_mangle)]
+pub extern "C" fn lvl_check_sag(row: &[u8], sag: &[u8], answer: &mut [u8]) -> u64
+    ensures result { result ≡ sag_returns row.now sag.now (length answer.old) }
+    ensures buffer { answer.new ≡ sag_leaves row.now sag.now answer.old }
+    ensures demand { HostKeepsSagDemand row.now sag.now answer.old result answer.new sag_factor }
+{
+    check_host_sag(row, sag, answer)
 }

@@ -1,0 +1,6 @@
+// The sag check over lent bytes.
+#![tactic(auto)]
+
+pub mod host;
+mod host_answer;
+mod host_cells;
