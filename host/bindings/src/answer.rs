@@ -12,10 +12,10 @@ pub struct Verdict {
     pub count: u32,
 }
 
-/// Why a row, a floor beam or a buffer is refused.
+/// Why a row, a floor beam, a sag check or a buffer is refused.
 #[derive(Clone, Copy, Debug, PartialEq, Eq, PartialOrd, Ord, Hash)]
 pub struct Refusal {
-    /// 1 to 8.
+    /// 1 to 10.
     pub number: u32,
     /// The cell that is named, from 1, or 0 where none is.
     pub cell: u32,

@@ -2,6 +2,7 @@
 use crate::answer::{Refusal, Verdict};
 use crate::floor_beam::{host_beam_bytes, BeamVerdict, HostBeam, BEAM_ANSWER_BYTES};
 use crate::row::{host_bytes, HostRow, ANSWER_BYTES, PACKED_BYTES};
+use crate::sag::{host_sag_bytes, HostSag, SagVerdict, SAG_ANSWER_BYTES};
 use crate::strengths::{Strength, Strengths, STRENGTHS_BYTES};
 
 mod c {
@@ -22,6 +23,14 @@ mod c {
         pub fn lvl_strengths(
             row: *const u8,
             row_len: usize,
+            answer: *mut u8,
+            answer_len: usize,
+        ) -> u64;
+        pub fn lvl_check_sag(
+            row: *const u8,
+            row_len: usize,
+            sag: *const u8,
+            sag_len: usize,
             answer: *mut u8,
             answer_len: usize,
         ) -> u64;
@@ -50,6 +59,21 @@ pub fn check_floor_beam_bytes(beam: &[u8], answer: &mut [u8]) -> u64 {
 pub fn strengths_bytes(row: &[u8], answer: &mut [u8]) -> u64 {
     // As above.
     unsafe { c::lvl_strengths(row.as_ptr(), row.len(), answer.as_mut_ptr(), answer.len()) }
+}
+
+/// `lvl_check_sag`, for bytes of any length: 0 for pass, 1 for fail, or 1000 × refusal number + cell.
+pub fn check_sag_bytes(row: &[u8], sag: &[u8], answer: &mut [u8]) -> u64 {
+    // As above.
+    unsafe {
+        c::lvl_check_sag(
+            row.as_ptr(),
+            row.len(),
+            sag.as_ptr(),
+            sag.len(),
+            answer.as_mut_ptr(),
+            answer.len(),
+        )
+    }
 }
 
 /// The verdict on a row of cells, or why it is refused.
@@ -137,5 +161,29 @@ fn strength_at(answer: &[u8], at: usize) -> Strength {
     Strength {
         kpa: float_at(answer, at) as u32,
         remainder: float_at(answer, at + 8) as u32,
+    }
+}
+
+/// The verdict on the sag of a row of kind 2, or why it is refused.
+pub fn check_sag(cells: &HostRow, sag: &HostSag) -> Result<SagVerdict, Refusal> {
+    let mut answer = [0; SAG_ANSWER_BYTES];
+    let code = check_sag_bytes(&host_bytes(cells), &host_sag_bytes(sag), &mut answer);
+    match Refusal::from_code(code) {
+        Some(refusal) => Err(refusal),
+        None => Ok(sag_verdict(code == 0, &answer)),
+    }
+}
+
+/// The verdict on a sag that a returned 0 or 1 and the answer's bytes stand for.
+pub fn sag_verdict(passes: bool, answer: &[u8; SAG_ANSWER_BYTES]) -> SagVerdict {
+    SagVerdict {
+        passes,
+        utilisation: float_at(answer, 0) as u32,
+        modulus: float_at(answer, 8) as u32,
+        duration: float_at(answer, 16) as u32,
+        moisture: float_at(answer, 24) as u32,
+        design_modulus: float_at(answer, 32) as u32,
+        limit_moment: float_at(answer, 40) as u64,
+        shear_factor: float_at(answer, 48) as u32,
     }
 }
