@@ -39,7 +39,7 @@ mod c {
 
 /// `lvl_check_row`, for bytes of any length: 0 for pass, 1 for fail, or 1000 × refusal number + cell.
 pub fn check_bytes(row: &[u8], answer: &mut [u8]) -> u64 {
-    // Both slices are valid for their lengths, and a mutable slice overlaps no other.
+    // Each slice is valid for its length, and a mutable slice overlaps no other.
     unsafe { c::lvl_check_row(row.as_ptr(), row.len(), answer.as_mut_ptr(), answer.len()) }
 }
 

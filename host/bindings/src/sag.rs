@@ -27,7 +27,7 @@ pub struct SagVerdict {
     pub passes: bool,
     /// In millionths, at most 9,999,999.
     pub utilisation: u32,
-    /// The modulus of elasticity of Table В.2а, in MPa.
+    /// The modulus of elasticity along the grain of Table В.2а, in MPa.
     pub modulus: u32,
     /// e, the load duration factor for elasticity, in hundredths.
     pub duration: u32,
@@ -35,8 +35,8 @@ pub struct SagVerdict {
     pub moisture: u32,
     /// E, the design modulus of elasticity in MPa, rounded down.
     pub design_modulus: u32,
-    /// Mf, the moment at which the sag reaches its limit but for shear, in N·mm, rounded down.
+    /// Mf, the moment with which bending alone makes the sag span / n, in N·mm, rounded down.
     pub limit_moment: u64,
-    /// By how much shear enlarges the sag, in millionths, its part rounded up.
+    /// The factor by which shear enlarges the sag, in millionths: 1,000,000 and shear's part, which is rounded up.
     pub shear_factor: u32,
 }
