@@ -1,7 +1,7 @@
 /*
  * lvl_addin.h - checks of LVL members and steel dowel joints to SP 64.13330.
  *
- * Four entries over bytes that the host lends:
+ * Five entries over bytes that the host lends:
  *
  *   lvl_check_row         judges one member: pass or fail, the check that
  *                         governs, its utilisation, the dowels of the joint
@@ -9,6 +9,7 @@
  *                         what rounding it down dropped
  *   lvl_pack_row          packs one member's cells into at most 97 bytes
  *   lvl_check_floor_beam  judges a floor beam by its loads and span
+ *   lvl_check_sag         judges whether a member in bending sags too far
  *
  * Link with libaddin.a. Compiles as C99 or later and as C++11 or later.
  *
@@ -138,7 +139,10 @@
  * kind 2 is made of them and judged: regime Be (2) where 100 times the first
  * load exceeds 80 times q, and Ve (3) where it does not; M = q * span^2 / 8000
  * in N mm and Q = q * span / 2000 in N, each rounded up to a whole number. Sag
- * and lateral stability are not checked.
+ * and lateral stability are not checked. For the sag, ask lvl_check_sag with a
+ * row of kind 2: cells 2 and 4 to 7 are the beam's, cells 3, 9 and 10 the
+ * regime, M and Q of the answer. Its moment Mn is not this M, which is of
+ * design loads.
  *
  * The answer is six doubles in 48 bytes, each lowest byte first, all whole
  * numbers: the three of a row's answer (utilisation; dowels, which are 0; the
@@ -152,27 +156,93 @@
  * check named fails, still with nothing rounded, at 1.005 times M and Q.
  *
  *
+ * THE SAG CHECK
+ *
+ * lvl_check_sag judges whether the member of a row of kind 2, as a straight
+ * prismatic beam of span L on two supports under an even load, sags by no more
+ * than L / n. Beside the row it takes three cells, here called the sag. As
+ * bytes it is 27 long, 9 for each cell, as in a row:
+ *
+ *   bytes            cell                                   range
+ *    0 to  8         span L, mm                             500 to 20000
+ *    9 to 17         unfactored moment Mn, N mm             1 to 10000000000
+ *   18 to 26         n of the limit L / n                   100 to 500
+ *
+ * Mn is the beam's greatest moment under the loads for which sag is limited,
+ * without their safety factors. Of the row the check uses cells 2, 3, 4, 6 and
+ * 7: neither M and Q, which are design values, nor the office factor.
+ *
+ * The beam sags by 5 * Mn * L^2 / (48 * E * I), with I = b * h^3 / 12, enlarged
+ * for shear. With nothing rounded that is at most L / n exactly where Mn * the
+ * shear factor is at most 1000000 * Mf:
+ *
+ *   modulus, MPa     12000, 11000, 10000 for grades 1, 2, 3: along the grain,
+ *                    Table V.2a (with the Cyrillic letter Ve) of SP 64.13330
+ *   e, hundredths    75 in regime Be (2), 90 in Ve (3), 100 in any other
+ *   w, hundredths    100 up to 12 percent of moisture, 90 up to 15, 85 up to
+ *                    20, 75 above
+ *   E, MPa           modulus * e * w / 10000, rounded down
+ *   Mf, N mm         4 * E * b * h^3 / (5 * L * n), rounded down: the moment
+ *                    at which bending alone makes the sag L / n
+ *   shear factor,    1000000 + (19200000 * h^2 / L^2, rounded up): that of
+ *   millionths       SNiP II-25-80 for a prismatic beam
+ *   utilisation,     Mn * shear factor / Mf, rounded up; 9999999 where it would
+ *   millionths       be greater
+ *
+ * Mf is made of E as rounded, the utilisation of Mf and the shear factor as
+ * rounded. No product of whole numbers here exceeds 2^63.
+ *
+ * The answer is seven doubles in 56 bytes, each lowest byte first, all whole
+ * numbers:
+ *
+ *   bytes  0 to  7   utilisation, millionths, at most 9999999. The sag passes
+ *                    up to 1000000
+ *   bytes  8 to 15   the modulus, MPa, at most 12000
+ *   bytes 16 to 23   e, hundredths, at most 100
+ *   bytes 24 to 31   w, hundredths, at most 100
+ *   bytes 32 to 39   E, MPa, 5625 to 12000
+ *   bytes 40 to 47   Mf, N mm, 1944 to 900000000000
+ *   bytes 48 to 55   the shear factor, millionths, 1000173 to 481000000
+ *
+ * A pass holds with nothing rounded, E, Mf and the shear factor included; a
+ * fail means that the beam sags by more than L / n, still with nothing rounded,
+ * at 1.005 times Mn.
+ *
+ * The row has only not to be refused by lvl_check_row; whether it passes there
+ * makes no difference. Nothing but the sag is judged: not the strength, which
+ * lvl_check_row judges, and not lateral stability, which no entry does.
+ *
+ *
  * REFUSALS
  *
- * A row, a floor beam or a buffer that cannot be taken is refused: the entry
- * returns 1000 times the refusal's number plus a cell, and writes nothing at
- * all. The cell is 0 where no cell of a row is to blame. What is tested comes
- * in this order, and the first to be found is returned:
+ * A row, a floor beam, a sag or a buffer that cannot be taken is refused: the
+ * entry returns 1000 times the refusal's number plus a cell, and writes nothing
+ * at all. The cell is 0 where no cell of a row is to blame. What is tested
+ * comes in this order, and the first to be found is returned:
  *
- *   lvl_check_row, lvl_strengths and lvl_pack_row:
+ *   lvl_check_row, lvl_strengths, lvl_check_sag and lvl_pack_row:
  *   1  unreadable: the row is not 198 bytes long (cell 0)
  *   1  unreadable: the lowest cell whose first byte is neither 0 nor 1, or that
  *      is filled with anything but a whole number from 0 to 17179869183
  *      (negative, fraction, infinity, NaN; -0 reads as 0)
  *
- *   lvl_check_row and lvl_strengths then:
+ *   lvl_check_row, lvl_strengths and lvl_check_sag then:
  *   2  cell 1 is blank
  *   3  cell 1 is not a known kind
  *   2  misfilled: the lowest cell that is blank but needed by the kind or by a
  *      joint begun, or filled but not for the kind
  *   3  unknown code: the lowest of cells 2, 3 and 13
  *   4  out of range: the lowest of all other cells
- *   5  the answer is not 24 bytes long, that of strengths not 64 (cell 0)
+ *
+ *   lvl_check_sag then:
+ *   9  the row is not of kind 2 (cell 1)
+ *  10  the sag is not 27 bytes long, or L, Mn or n is blank, unreadable as
+ *      above or outside its range (cell 0). A host that wants to say which
+ *      tests them itself
+ *
+ *   lvl_check_row, lvl_strengths and lvl_check_sag last:
+ *   5  the answer is not 24 bytes long, that of strengths not 64, that of a sag
+ *      not 56 (cell 0)
  *
  *   lvl_pack_row then:
  *   5  the row takes more bytes than are lent (cell 0)
@@ -195,7 +265,8 @@
  * C cannot check, and the entries cannot test, that
  *   - each pointer is valid for as many bytes as its length says; it may be
  *     null only where that length is 0;
- *   - the buffer that is written overlaps no part of the row or the beam.
+ *   - the buffer that is written overlaps no part of the row, the beam or the
+ *     sag.
  * Bytes need no alignment.
  *
  *
@@ -209,8 +280,8 @@
  * programs.
  *
  * Stack: lvl_check_row 680 bytes, lvl_strengths 728 bytes, lvl_pack_row 424
- * bytes, lvl_check_floor_beam 776 bytes. No heap, no system call, no lock, and
- * no data of its own that it writes.
+ * bytes, lvl_check_floor_beam 776 bytes, lvl_check_sag 1312 bytes. No heap, no
+ * system call, no lock, and no data of its own that it writes.
  *
  * Threads: any number may call at once, each with a buffer of its own to write
  * to. Nothing is kept between calls.
@@ -277,6 +348,12 @@
  * A floor beam is filled and called in the same way: fill(beam, place, number)
  * with places 1 to 8 in a beam of LVL_BEAM_BYTES, and an answer of
  * LVL_BEAM_ANSWER_BYTES, which holds six doubles.
+ *
+ * lvl_check_sag takes the same row and a sag of LVL_SAG_BYTES, filled likewise
+ * at places 1 to 3, and an answer of LVL_SAG_ANSWER_BYTES, which holds seven
+ * doubles. With a span of 6000, Mn 15000000 and n 200 the beam of the example,
+ * which passes lvl_check_row, fails: E 10800, Mf 14580000, shear factor
+ * 1048000, utilisation 1078190.
  */
 #ifndef LVL_ADDIN_H
 #define LVL_ADDIN_H
@@ -298,8 +375,11 @@ extern "C" {
 #define LVL_BEAM_CELLS 8
 #define LVL_BEAM_BYTES 72
 #define LVL_BEAM_ANSWER_BYTES 48
+#define LVL_SAG_CELLS 3
+#define LVL_SAG_BYTES 27
+#define LVL_SAG_ANSWER_BYTES 56
 
-/* What a check returns for a row or a floor beam that is not refused. */
+/* What a check returns for a row, a floor beam or a sag that is not refused. */
 #define LVL_PASS 0
 #define LVL_FAIL 1
 
@@ -319,6 +399,8 @@ extern "C" {
 #define LVL_OUT_OF_RANGE 4
 #define LVL_BUFFER_SIZE 5
 #define LVL_LOADING 8
+#define LVL_NOT_KIND_2 9
+#define LVL_SAG_INPUT 10
 
 /* Regimes of a floor beam. */
 #define LVL_REGIME_BE 2
@@ -378,6 +460,17 @@ uint64_t lvl_pack_row(const uint8_t *row, size_t row_len,
  */
 uint64_t lvl_check_floor_beam(const uint8_t *beam, size_t beam_len,
                               uint8_t *answer, size_t answer_len);
+
+/*
+ * Judges the sag of a row of kind 2 that lvl_check_row does not refuse.
+ *
+ * Returns LVL_PASS or LVL_FAIL and fills the answer's 56 bytes, or returns
+ * 1000 * number + cell for refusals 1 to 5, 9 and 10 and leaves the answer as
+ * it was.
+ */
+uint64_t lvl_check_sag(const uint8_t *row, size_t row_len,
+                       const uint8_t *sag, size_t sag_len,
+                       uint8_t *answer, size_t answer_len);
 
 #ifdef __cplusplus
 }
