@@ -1,5 +1,6 @@
 /* A host in C99. */
 #include "host.h"
+#include "sag.h"
 
 int main(void)
 {
@@ -7,5 +8,6 @@ int main(void)
     give_strengths();
     pack_rows();
     check_floor_beams();
+    check_sags();
     return 0;
 }

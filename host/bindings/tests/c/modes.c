@@ -74,8 +74,11 @@ static int traps(const struct trial *trial, const uint8_t *bytes)
     return 1;
 }
 
-/* A call in every mode but those that the header excepts: a trap on subnormals, where they are not zero and a cell has one. */
-static void in_every_mode(const struct trial *trial, const uint8_t *bytes, int subnormal)
+/*
+ * A call in every mode but those that the header excepts: a trap on subnormals, where they are not zero and a cell has one. It
+ * gives the code of the default mode.
+ */
+static uint64_t in_every_mode(const struct trial *trial, const uint8_t *bytes, int subnormal)
 {
     struct answer usual = call(trial, bytes, DEFAULT);
     unsigned flush, denormals, rounding, trap;
@@ -90,19 +93,25 @@ static void in_every_mode(const struct trial *trial, const uint8_t *bytes, int s
                     calls++;
                     different += memcmp(&got, &usual, sizeof got) != 0;
                 }
+    return usual.code;
 }
 
-/* The refusal for an unreadable cell. A floor beam's loads and span have one of their own, its other cells a row's numbers. */
-static uint64_t refusal(const struct trial *trial, size_t place)
+/*
+ * The refusal for an unreadable cell, given the code without it. A floor beam's loads and span have one of their own, its other
+ * cells a row's numbers. So do a sag's cells, and they come last: what refuses the row or them without it still does.
+ */
+static uint64_t refusal(const struct trial *trial, size_t place, uint64_t without)
 {
     static const uint64_t of_beam[LVL_BEAM_CELLS] = {0, 0, 0, 2, 4, 5, 6, 7};
     uint64_t cell = trial->called == lvl_check_floor_beam ? of_beam[place - 1] : place;
+    if (trial->called_with_sag != NULL && place > LVL_CELLS)
+        return without < LVL_REFUSAL ? LVL_REFUSAL * LVL_SAG_INPUT : without;
     return LVL_REFUSAL * (cell == 0 ? LVL_LOADING : LVL_UNREADABLE) + cell;
 }
 
-static void expect(const struct trial *trial, const uint8_t *bytes, size_t place)
+static void expect(const struct trial *trial, const uint8_t *bytes, size_t place, uint64_t without)
 {
-    not_refused += call(trial, bytes, DEFAULT).code != refusal(trial, place);
+    not_refused += call(trial, bytes, DEFAULT).code != refusal(trial, place, without);
 }
 
 /* Bits in each cell of each sample, then in all cells at once. */
@@ -112,19 +121,20 @@ static void try_bits(const struct trial *trial, size_t i)
     size_t sample, place;
     for (sample = 0; sample < trial->samples; sample++)
         for (place = 1; place <= trial->cells; place++) {
+            uint64_t without;
             fill_sample(trial, bytes, sample);
-            in_every_mode(trial, bytes, 0);
+            without = in_every_mode(trial, bytes, 0);
             fill_bits(bytes, place, numbers[i]);
             in_every_mode(trial, bytes, i < SUBNORMALS);
             trapped += traps(trial, bytes);
             if (i < UNREADABLE)
-                expect(trial, bytes, place);
+                expect(trial, bytes, place, without);
         }
     for (place = 1; place <= trial->cells; place++)
         fill_bits(bytes, place, numbers[i]);
     in_every_mode(trial, bytes, i < SUBNORMALS);
     if (i < UNREADABLE)
-        expect(trial, bytes, 1);
+        expect(trial, bytes, 1, 0);
 }
 
 int main(void)

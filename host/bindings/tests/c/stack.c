@@ -17,10 +17,17 @@ static const struct trial *running;
 static const uint8_t *frame;
 static ucontext_t caller, callee;
 
-/* Called as an entry is, it notes its frame: the caller's frame pointer, with the return address right above. */
+/* Called as the entries are, these note their frame: the caller's frame pointer, with the return address right above. */
 static uint64_t note_frame(const uint8_t *a, size_t b, uint8_t *c, size_t d)
 {
     (void)a, (void)b, (void)c, (void)d;
+    frame = (const uint8_t *)__builtin_frame_address(0);
+    return 0;
+}
+
+static uint64_t note_frame_with_sag(const uint8_t *a, size_t b, const uint8_t *c, size_t d, uint8_t *e, size_t f)
+{
+    (void)a, (void)b, (void)c, (void)d, (void)e, (void)f;
     frame = (const uint8_t *)__builtin_frame_address(0);
     return 0;
 }
@@ -51,7 +58,10 @@ static size_t touched(const struct trial *trial)
 static size_t above_call(const struct trial *trial)
 {
     struct trial noting = *trial;
-    noting.called = note_frame;
+    if (noting.called_with_sag != NULL)
+        noting.called_with_sag = note_frame_with_sag;
+    else
+        noting.called = note_frame;
     touched(&noting);
     return (size_t)(stack + sizeof stack - frame) - 2 * sizeof(void *);
 }

@@ -67,6 +67,11 @@ pub fn include_folder() -> PathBuf {
     package().join("../../include")
 }
 
+/// The header's text.
+pub fn header() -> String {
+    std::fs::read_to_string(include_folder().join("lvl_addin.h")).unwrap()
+}
+
 pub fn source(name: &str) -> PathBuf {
     package().join("tests/c").join(name)
 }

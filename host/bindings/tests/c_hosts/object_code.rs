@@ -1,5 +1,5 @@
 //! What the compiler made of the proved code, where the proof does not reach: the archive's instructions and symbols.
-use crate::building::{archive, scratch, succeed};
+use crate::building::{archive, header, scratch, succeed};
 use std::collections::BTreeSet;
 use std::process::Command;
 
@@ -72,6 +72,28 @@ fn no_instruction_of_a_later_processor() {
             "{name} {operands}"
         );
     }
+}
+
+/// A host finds the entries that the header declares, and no other name that one of its own could meet.
+#[test]
+fn exports_what_the_header_declares() {
+    let mut command = Command::new("nm");
+    let symbols = succeed(
+        command
+            .args(["--defined-only", "--extern-only", "--format=posix"])
+            .arg(archive()),
+    );
+    let exported: BTreeSet<&str> = symbols
+        .lines()
+        .skip(1) // names the object
+        .filter_map(|line| line.split(' ').next())
+        .collect();
+    let header = header();
+    let declared: BTreeSet<&str> = header
+        .lines()
+        .filter_map(|line| line.strip_prefix("uint64_t ")?.split('(').next())
+        .collect();
+    assert_eq!(exported, declared);
 }
 
 /// It calls nothing, the C library neither, and goes into a shared library as well as into a program.

@@ -1,13 +1,14 @@
 //! The stack that an entry needs is what the header and README.md say.
-use crate::building::{include_folder, printed, source, C99};
+use crate::building::{header, include_folder, printed, source, C99};
 use std::fs::read_to_string;
 
 /// The entries, each with the words before its figure in README.md.
-const ENTRIES: [(&str, &str); 4] = [
+const ENTRIES: [(&str, &str); 5] = [
     ("lvl_check_row", "a check takes"),
     ("lvl_strengths", "strengths"),
     ("lvl_pack_row", "packing"),
     ("lvl_check_floor_beam", "a floor beam"),
+    ("lvl_check_sag", "a sag check"),
 ];
 
 /// The figure after a word in a text, commas left out.
@@ -28,7 +29,7 @@ fn figure(text: &str, word: &str) -> usize {
 #[test]
 fn no_more_than_the_header_says() {
     let touched = printed(&C99, "stack", &source("stack.c"));
-    let header = read_to_string(include_folder().join("lvl_addin.h")).unwrap();
+    let header = header();
     let (_, stack) = header.split_once("Stack: ").expect("a paragraph on it");
     for (entry, _) in ENTRIES {
         let stated = figure(stack, entry);
