@@ -109,7 +109,7 @@ impl Report for AnswerColumns {
                 let own = columns
                     .iter()
                     .map(|column| Cow::Borrowed(heading(column, columns.schema).as_bytes()));
-                let answers = columns.schema.answers.iter();
+                let answers = columns.answers().iter();
                 let answers = answers.map(|answer| answer.heading.to_owned()).collect();
                 self.add(columns, own.collect(), answers, Fields::none());
             }
@@ -122,7 +122,7 @@ impl Report for AnswerColumns {
 
     fn row(&mut self, row: &SheetRow) -> Outcome {
         let judged = row.judged();
-        let answers = row.columns.schema.answers.iter();
+        let answers = row.columns.answers().iter();
         self.add(
             row.columns,
             row.fields.clone(),
@@ -147,7 +147,7 @@ fn visible_but_tab(character: char) -> char {
 
 /// The answers' headings, as the header has them already or else their own.
 fn answer_headings(columns: &Columns, header: &[Cow<[u8]>]) -> Vec<String> {
-    let answers = columns.schema.answers.iter().enumerate();
+    let answers = columns.answers().iter().enumerate();
     answers
         .map(
             |(number, answer)| match columns.place_of(Heading::Answer(number)) {

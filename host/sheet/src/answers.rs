@@ -1,8 +1,7 @@
 //! The answers that are written beside a row, each in a column of its own.
 use crate::answer_columns::HEADINGS;
-use crate::judgement::{Judged, Refused};
+use crate::judgement::{governing, Check, Governing, Judged, Refused};
 use crate::row::SheetRow;
-use lvl_addin::answer::Verdict;
 
 #[derive(Clone, Copy)]
 pub struct Answer {
@@ -14,9 +13,8 @@ pub struct Answer {
 pub const VERDICT: Answer = Answer {
     heading: HEADINGS[0],
     text: |_, judged| {
-        match judged {
-            Ok(found) if found.verdict().passes => "pass",
-            Ok(_) => "fail",
+        match governing(judged) {
+            Ok(governing) => pass_or_fail(governing.passes),
             Err(_) => "refused",
         }
         .to_owned()
@@ -25,22 +23,30 @@ pub const VERDICT: Answer = Answer {
 
 pub const CHECK: Answer = Answer {
     heading: HEADINGS[1],
-    text: |_, judged| of_verdict(judged, |verdict| verdict.check),
+    text: |_, judged| {
+        of_governing(judged, |governing| match governing.check {
+            Check::Numbered(number) => number.to_string(),
+            Check::Sag => "sag".to_owned(),
+        })
+    },
 };
 
 pub const UTILISATION: Answer = Answer {
     heading: HEADINGS[2],
-    text: |_, judged| of_verdict(judged, |verdict| verdict.utilisation),
+    text: |_, judged| of_governing(judged, |governing| governing.utilisation.to_string()),
 };
 
 pub const COUNT: Answer = Answer {
     heading: HEADINGS[3],
-    text: |_, judged| of_verdict(judged, |verdict| verdict.count),
+    text: |_, judged| {
+        let found = judged.as_ref();
+        found.map_or(String::new(), |found| found.strength().count.to_string())
+    },
 };
 
 pub const REFUSAL: Answer = Answer {
     heading: HEADINGS[4],
-    text: |_, judged| match judged {
+    text: |_, judged| match governing(judged) {
         Ok(_) => String::new(),
         Err(Refused::ByAddin(refusal)) => refusal.number.to_string(),
         Err(Refused::OpenQuote) => "open quote".to_owned(),
@@ -50,15 +56,21 @@ pub const REFUSAL: Answer = Answer {
 
 pub const REFUSED_CELL: Answer = Answer {
     heading: HEADINGS[5],
-    text: |_, judged| match judged {
+    text: |_, judged| match governing(judged) {
         Err(Refused::ByAddin(refusal)) => refusal.cell.to_string(),
         _ => String::new(),
     },
 };
 
-fn of_verdict(judged: &Judged, number: fn(&Verdict) -> u32) -> String {
-    match judged {
-        Ok(found) => number(found.verdict()).to_string(),
-        Err(_) => String::new(),
+/// A verdict in a column of its own.
+pub fn pass_or_fail(passes: bool) -> &'static str {
+    if passes {
+        "pass"
+    } else {
+        "fail"
     }
+}
+
+fn of_governing(judged: &Judged, text: fn(&Governing) -> String) -> String {
+    governing(judged).map_or(String::new(), |governing| text(&governing))
 }

@@ -1,9 +1,10 @@
 //! What each column of a sheet holds, its separator and its decimal mark.
+use crate::answers::Answer;
 use crate::fields::{self, Fields};
 use crate::headings::{self, Heading, Meaning};
 use crate::members;
 use crate::number::{self, DecimalMark, Typed};
-use crate::schema::Schema;
+use crate::schema::{Cell, Schema};
 use std::borrow::Cow;
 
 /// A line with so many numbers in the columns of cells is a member's: the least that is filled has nine, a floor beam eight.
@@ -54,6 +55,8 @@ pub struct Columns {
     pub schema: &'static Schema,
     pub separator: u8,
     pub basis: Basis,
+    /// Whether a row asks for what is on request.
+    pub requested: bool,
     /// Fields further right are as good as unheaded.
     columns: Vec<Column>,
 }
@@ -69,11 +72,13 @@ impl Columns {
             schema,
             separator,
             basis,
+            requested: false,
             columns,
         }
     }
 
     /// The names, unless the first column is the first cell's, the cells in their order, and an earlier run's answers.
+    /// Where these follow sooner, there are no columns for what is on request.
     pub fn in_order_below(
         header: &[u8],
         schema: &'static Schema,
@@ -86,10 +91,12 @@ impl Columns {
         let is_cell = headings::read_in(schema, &first) == Meaning::Known(Heading::Cell(1))
             || schema.in_first_cell.iter().any(says_cell);
         let mut columns = Columns::in_order(schema, separator, basis, !is_cell);
-        if columns.are_answers_headed(header) {
-            let answers = (0..schema.answers.len()).map(Heading::Answer);
-            columns.columns.extend(answers.map(Column::Holds));
+        let without_request = columns.without_request();
+        if without_request.answers_headed(header) > 0 {
+            columns = without_request;
         }
+        let answers = (0..columns.answers_headed(header)).map(Heading::Answer);
+        columns.columns.extend(answers.map(Column::Holds));
         columns
     }
 
@@ -112,13 +119,77 @@ impl Columns {
         Columns::new(schema, separator, basis, columns)
     }
 
-    fn are_answers_headed(&self, header: &[u8]) -> bool {
-        let mut after_cells = Fields::of(header, self.separator).skip(self.width());
-        self.schema.answers.iter().all(|answer| {
-            after_cells
-                .next()
-                .is_some_and(|field| field.as_ref() == answer.heading.as_bytes())
-        })
+    /// How many answers of an earlier run are headed right after the cells.
+    fn answers_headed(&self, header: &[u8]) -> usize {
+        let answers = &self.schema.answers;
+        let after_cells = Fields::of(header, self.separator).skip(self.width());
+        let is_headed =
+            |(answer, field): &(&Answer, Cow<[u8]>)| field.as_ref() == answer.heading.as_bytes();
+        let headed = answers
+            .iter()
+            .zip(after_cells)
+            .take_while(is_headed)
+            .count();
+        let of_a_run = [answers.len(), self.schema.answers_without_request()];
+        of_a_run.into_iter().find(|run| headed >= *run).unwrap_or(0)
+    }
+
+    /// The same without columns at the end for the cells of what is on request.
+    pub fn without_request(&self) -> Columns {
+        let is_on_request = |column: &&Column| self.is_on_request(**column);
+        let dropped = self.columns.iter().rev().take_while(is_on_request).count();
+        Columns {
+            columns: self.columns[..self.width() - dropped].to_vec(),
+            ..*self
+        }
+    }
+
+    fn is_on_request(&self, column: Column) -> bool {
+        matches!(column, Column::Holds(Heading::Cell(place)) if self.schema.is_on_request(place))
+    }
+
+    /// The places of the columns, from 0, in which a row asks for what is on request.
+    pub fn on_request(&self) -> Vec<usize> {
+        let is_on_request = |place: &usize| self.is_on_request(self.columns[*place]);
+        (0..self.width()).filter(is_on_request).collect()
+    }
+
+    /// The cells, those of what is on request only where a column holds one.
+    pub fn cells(&self) -> &'static [Cell] {
+        let without_request = self.schema.cells_without_request();
+        match self.on_request().is_empty() {
+            true => &self.schema.cells[..without_request],
+            false => &self.schema.cells,
+        }
+    }
+
+    /// What a heading's text is in a sheet with these cells.
+    pub fn meaning(&self, text: &str) -> Meaning {
+        match headings::read_in(self.schema, text) {
+            Meaning::Known(Heading::Cell(place)) if place > self.cells().len() => Meaning::Unknown,
+            meaning => meaning,
+        }
+    }
+
+    pub fn last_cell(&self) -> &'static Cell {
+        self.cells().last().expect("there are cells")
+    }
+
+    /// In which units loads and forces have to be.
+    pub fn loads_wanted(&self) -> &'static str {
+        match &self.schema.on_request {
+            Some(on_request) if !self.on_request().is_empty() => on_request.loads_wanted,
+            _ => self.schema.loads_wanted,
+        }
+    }
+
+    /// The answers, those of what is on request where a row asks for it or an earlier run has left them.
+    pub fn answers(&self) -> &'static [Answer] {
+        let without_request = self.schema.answers_without_request();
+        match self.requested || self.place_of(Heading::Answer(without_request)).is_some() {
+            true => &self.schema.answers,
+            false => &self.schema.answers[..without_request],
+        }
     }
 
     /// How many columns there are.

@@ -1,4 +1,4 @@
-//! The answers for a floor beam.
+//! The answers for a floor beam, beside which those on its sag may stand.
 use crate::answers::{Answer, CHECK, REFUSAL, REFUSED_CELL, UTILISATION, VERDICT};
 use crate::floor_beams::{strength, total_load};
 use crate::words;

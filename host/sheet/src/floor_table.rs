@@ -1,4 +1,4 @@
-//! The table of floor beams.
+//! The table of floor beams, and its columns that a table with their sag has too.
 use crate::floor_beams::{strength, total_load, SPAN};
 use crate::judgement::Judgement;
 use crate::table::{whole_number, Layout, TableColumn, NONE, UNSHOWN};
@@ -10,20 +10,22 @@ use lvl_addin::floor_beam::BeamVerdict;
 const GREATEST_SHOWN: u64 = 9_999_999;
 
 pub fn layout() -> Layout<Judgement> {
+    let verdict = [verdict_table::VERDICT, verdict_table::UTILISATION];
     verdict_table::layout(
-        vec![
-            LENGTHS,
-            verdict_table::SIZES,
-            TOTAL_LOADS,
-            REGIMES,
-            MOMENTS,
-            SHEARS,
-            verdict_table::VERDICT,
-            verdict_table::UTILISATION,
-        ],
+        OF_A_BEAM.into_iter().chain(verdict).collect(),
         vec!["Strength alone, for design loads: sag and lateral stability are not checked."],
     )
 }
+
+/// What a beam is, and what is made of its loads.
+pub const OF_A_BEAM: [TableColumn<Judgement>; 6] = [
+    LENGTHS,
+    verdict_table::SIZES,
+    TOTAL_LOADS,
+    REGIMES,
+    MOMENTS,
+    SHEARS,
+];
 
 const LENGTHS: TableColumn<Judgement> = TableColumn {
     heading: "Span, mm",
@@ -69,7 +71,8 @@ const SHEARS: TableColumn<Judgement> = TableColumn {
     text: |_, judged| strength(judged).map_or(NONE.to_owned(), |beam| in_kn(beam.shear)),
 };
 
-fn in_kn_m(moment: u64) -> String {
+/// N·mm in kN·m.
+pub fn in_kn_m(moment: u64) -> String {
     hundredths(moment.div_ceil(10_000))
 }
 

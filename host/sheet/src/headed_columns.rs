@@ -55,7 +55,7 @@ fn problem(
 ) -> Option<String> {
     let problem = match &columns[place] {
         Err(problem) => problem.clone(),
-        Ok(Column::Holds(Heading::Answer(_))) if !has_all_answers(columns, schema) => {
+        Ok(Column::Holds(Heading::Answer(number))) if !has_answers(*number, columns, schema) => {
             // New answers would be written over what an office may call its count or check.
             "the heading of an answer, without those of the others: rename the column".to_owned()
         }
@@ -69,8 +69,14 @@ fn problem(
     Some(in_column(place, &texts[place], &problem))
 }
 
-fn has_all_answers(columns: &[Result<Column, String>], schema: &Schema) -> bool {
-    let mut answers = (0..schema.answers.len()).map(Heading::Answer);
+/// Whether all answers are headed that a run has written with this one: those of what is on request only where it has.
+fn has_answers(number: usize, columns: &[Result<Column, String>], schema: &Schema) -> bool {
+    let without_request = schema.answers_without_request();
+    let written = match number < without_request {
+        true => without_request,
+        false => schema.answers.len(),
+    };
+    let mut answers = (0..written).map(Heading::Answer);
     answers.all(|answer| columns.contains(&Ok(Column::Holds(answer))))
 }
 
@@ -159,6 +165,7 @@ fn is_small_letter(text: &str, cell: &Cell) -> bool {
     let text = text.trim();
     text.chars().count() == 1
         && text != text.to_uppercase()
+        && !symbol.is_empty()
         && symbol.chars().all(char::is_uppercase)
 }
 

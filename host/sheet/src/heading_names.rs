@@ -29,6 +29,8 @@ pub struct CellNames {
     pub words: &'static [&'static str],
     /// Words that name the cell only with the symbol beside them.
     pub beside_symbol: &'static [&'static str],
+    /// Whether they have a symbol with a small n, which is not the N of forces.
+    pub has_small_n: bool,
 }
 
 const fn symbol(
@@ -40,6 +42,14 @@ const fn symbol(
         symbol,
         words,
         beside_symbol,
+        has_small_n: false,
+    }
+}
+
+const fn with_small_n(names: CellNames) -> CellNames {
+    CellNames {
+        has_small_n: true,
+        ..names
     }
 }
 
@@ -95,6 +105,20 @@ pub const FLOOR: [CellNames; 3] = [
             "кратковременные нагрузки", "кратковременная", "кратковременная остальная нагрузка",
             "остальная кратковременная нагрузка"]),
     symbol("L", &["span", "design span", "effective span", "пролёт", "расчётный пролёт", "пролёт балки"], &[]),
+];
+
+/// What a floor beam has for its sag. A moment alone may be that of design loads, and a limit alone one in mm.
+#[rustfmt::skip]
+pub const SAG: [CellNames; 2] = [
+    with_small_n(symbol("Mn", &["unfactored moment", "unfactored bending moment", "characteristic moment",
+                                "characteristic bending moment", "moment of unfactored loads", "нормативный момент",
+                                "нормативный изгибающий момент", "момент от нормативных нагрузок",
+                                "изгибающий момент от нормативных нагрузок", "Мн", "момент Мн",
+                                "нормативный момент Мн"],
+                        &["moment", "bending moment", "момент", "изгибающий момент"])),
+    with_small_n(words(&["n", "span/n", "L/n", "limit n", "limit of span/n", "limit span/n", "limit L/n",
+                         "sag limit n", "deflection limit n", "пролёт/n", "предел n", "предел прогиба n",
+                         "предел прогиба l/n", "предельный прогиб n", "предельный прогиб l/n"])),
 ];
 
 impl CellNames {

@@ -2,7 +2,7 @@
 //!
 //! A heading is a name, or a name and the unit of what it names. Case, spaces and brackets do not count, and letters
 //! that look alike in the Cyrillic and the Latin alphabet are one: nobody sees in which of them М, а or кс was typed.
-//! Every other sign counts: N+, N* or 2b are not N or b.
+//! Every other sign counts: N+, N* or 2b are not N or b. In one place case counts too: n is no N where N would be a force.
 use crate::schema::Schema;
 use crate::text::is_unseen;
 use crate::{members, units};
@@ -58,19 +58,20 @@ pub fn read(text: &str) -> Meaning {
 
 /// What a heading's text is in such a sheet.
 pub fn read_in(schema: &Schema, text: &str) -> Meaning {
-    let words = words_of(text);
+    let typed = typed_words(text);
     if text
         .chars()
         .all(|letter| letter.is_whitespace() || is_without_width(letter))
     {
         return Meaning::Empty;
     }
-    if words.len() > MOST_WORDS {
+    if typed.len() > MOST_WORDS {
         return Meaning::Unknown;
     }
+    let words = small(&typed);
     (1..=words.len())
         .rev()
-        .find_map(|at| named(schema, &words[..at], &words[at..]))
+        .find_map(|at| named(schema, &typed[..at], &words[..at], &words[at..]))
         .unwrap_or(Meaning::Unknown)
 }
 
@@ -79,37 +80,70 @@ pub fn key(text: &str) -> String {
     name_key(&words_of(text))
 }
 
-/// What a name and the unit after it mean, if they mean anything.
-fn named(schema: &Schema, name: &[String], unit: &[String]) -> Option<Meaning> {
+/// What a name, as it was typed and in small letters, and the unit after it mean, if they mean anything.
+fn named(schema: &Schema, typed: &[String], name: &[String], unit: &[String]) -> Option<Meaning> {
     let heading = schema.heading(&name_key(name))?;
-    if unit.is_empty() {
-        return Some(Meaning::Known(heading));
-    }
     let Heading::Cell(place) = heading else {
-        return None;
+        return unit.is_empty().then_some(Meaning::Known(heading));
     };
-    if units::is(schema.cell(place).words.unit, unit) {
+    let cell = schema.cell(place);
+    if cell.names.has_small_n && speaks_of_force(typed) {
+        return None;
+    }
+    if unit.is_empty() || units::is(cell.words.unit, unit) {
         return Some(Meaning::Known(heading));
     }
     units::is_any(unit).then_some(Meaning::OtherUnit(place))
 }
 
+/// Whether a capital N in a name, as it was typed, is a force, at its beginning, or a unit, behind an M or with one.
+fn speaks_of_force(name: &[String]) -> bool {
+    let is_m = |word: &str| matches!(word, "M" | "m" | "М" | "м");
+    (0..).zip(name).any(|(place, word)| match word.as_str() {
+        "N" if place == 0 => true,
+        "N" | "Н" => place > 0 && is_m(&name[place - 1]),
+        "MN" | "MН" | "МN" | "МН" => place > 0,
+        _ => false,
+    })
+}
+
 /// A heading's words in small letters, without what only parts them, and without the apostrophe that keeps a formula text.
 pub fn words_of(text: &str) -> Vec<String> {
+    small(&typed_words(text))
+}
+
+/// The same in the letters that were typed.
+pub fn typed_words(text: &str) -> Vec<String> {
     let text = text.strip_prefix('\'').unwrap_or(text);
     let mut words = vec![String::new()];
-    for letter in text.chars().flat_map(char::to_lowercase) {
+    for letter in text.chars() {
         match letter {
-            // The second half of a letter that is written in two: й, ё.
-            '\u{300}'..='\u{36f}' => {}
+            letter if is_mark(letter) => {}
             '%' | '‰' => words.extend([letter.to_string(), String::new()]),
             letter if parts_words(letter) => words.push(String::new()),
             letter if is_without_width(letter) => {}
-            letter => words.last_mut().expect("one at least").push(plain(letter)),
+            letter => words.last_mut().expect("one at least").push(letter),
         }
     }
     words.retain(|word| !word.is_empty());
     words
+}
+
+/// Words in small and plain letters.
+pub fn small(words: &[String]) -> Vec<String> {
+    let small = |word: &String| {
+        let letters = word.chars().flat_map(char::to_lowercase);
+        letters
+            .filter(|letter| !is_mark(*letter))
+            .map(plain)
+            .collect()
+    };
+    words.iter().map(small).collect()
+}
+
+/// The second half of a letter that is written in two: й, ё.
+fn is_mark(letter: char) -> bool {
+    matches!(letter, '\u{300}'..='\u{36f}')
 }
 
 /// A soft hyphen, a space of no width, a byte order mark.

@@ -1,7 +1,8 @@
-//! Refusal 8 in words: which of a floor beam's loads, their total or its span is to blame.
+//! A floor beam's own refusals in words: which of its loads, their total or its span is to blame for refusal 8, and which of
+//! span, unfactored moment and limit for refusal 10, which is of the sag alone.
 //!
 //! The add-in names none of them. What stands here looks for one that explains the refusal; it decides nothing.
-use crate::floor_beams::{total_load, LOADS, SPAN};
+use crate::floor_beams::{total_load, LIMIT, LOADS, SPAN, UNFACTORED_MOMENT};
 use crate::number::Typed;
 use crate::reasons::{range, shown_cell, unreadable};
 use crate::row::SheetRow;
@@ -11,24 +12,41 @@ use std::ops::RangeInclusive;
 
 const TOTAL_LOADS: RangeInclusive<u64> = 100..=100_000;
 const SPANS: RangeInclusive<u64> = 500..=20_000;
+const UNFACTORED_MOMENTS: RangeInclusive<u64> = 1..=10_000_000_000;
+const LIMITS: RangeInclusive<u64> = 100..=500;
 
 /// "refusal 8, span: 25000 is outside 500 to 20000 mm".
 pub fn reason(refusal: Refusal, row: &SheetRow) -> String {
-    match (refusal.number, blamed(row)) {
-        (8, Some(blamed)) => format!("refusal 8, {blamed}"),
-        (8, None) => "refusal 8 of a load, the total load or the span".to_owned(),
-        (number, _) => format!("refusal {number} of the whole beam"),
+    let (blamed, any) = match refusal.number {
+        8 => (of_loads(row), "a load, the total load or the span"),
+        10 => (of_sag(row), "the span, the unfactored moment or the limit"),
+        number => return format!("refusal {number} of the whole beam"),
+    };
+    match blamed {
+        Some(blamed) => format!("refusal {}, {blamed}", refusal.number),
+        None => format!("refusal {} of {any}", refusal.number),
     }
 }
 
-/// What explains the refusal, the first in the order of the columns.
-fn blamed(row: &SheetRow) -> Option<String> {
+/// What explains refusal 8, the first in the order of the columns.
+fn of_loads(row: &SheetRow) -> Option<String> {
     let [long_term, remaining] = LOADS;
     not_whole(row, long_term)
         .or_else(|| not_whole(row, remaining))
         .or_else(|| outside(total_load(row)?, &TOTAL_LOADS, &words::TOTAL_LOAD))
-        .or_else(|| not_whole(row, SPAN))
-        .or_else(|| outside(row.cell(SPAN).whole()?, &SPANS, row.words(SPAN)))
+        .or_else(|| not_in(row, SPAN, &SPANS))
+}
+
+/// What explains refusal 10, the first in the order of the columns.
+pub fn of_sag(row: &SheetRow) -> Option<String> {
+    not_in(row, SPAN, &SPANS)
+        .or_else(|| not_in(row, UNFACTORED_MOMENT, &UNFACTORED_MOMENTS))
+        .or_else(|| not_in(row, LIMIT, &LIMITS))
+}
+
+/// What is wrong with a cell that has to be a whole number within a range.
+fn not_in(row: &SheetRow, place: usize, allowed: &RangeInclusive<u64>) -> Option<String> {
+    not_whole(row, place).or_else(|| outside(row.cell(place).whole()?, allowed, row.words(place)))
 }
 
 fn not_whole(row: &SheetRow, place: usize) -> Option<String> {

@@ -104,7 +104,9 @@ fn gone_through(bytes: &[u8], request: &Request) -> Result<(Tally, Vec<u8>), Str
     let progress = &mut Progress::new(io::stderr().is_terminal());
     let answers = match request.form {
         Form::Table => {
-            let report = Table::new(schema, &schema.verdict_table);
+            let on_request = schema.on_request.as_ref();
+            let on_request = on_request.map(|on_request| &on_request.verdict_table);
+            let report = Table::new(schema, &schema.verdict_table).with(on_request);
             go_through(&text, columns, report, progress)
         }
         Form::Strengths => {

@@ -47,6 +47,7 @@ pub fn schema() -> &'static Schema {
             vec![],
         ),
         strength_table: strength_table::layout(STRENGTHS_USED),
+        on_request: None,
         by_key: OnceLock::new(),
     });
     &SCHEMA
@@ -83,7 +84,7 @@ const DOWELS: TableColumn<Judgement> = TableColumn {
     width: 6,
     side: Side::Right,
     text: |_, judged| match judged {
-        Ok(found) if found.verdict().count > 0 => found.verdict().count.to_string(),
+        Ok(found) if found.strength().count > 0 => found.strength().count.to_string(),
         _ => NONE.to_owned(),
     },
 };

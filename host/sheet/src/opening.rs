@@ -5,7 +5,7 @@ use crate::lines::{Line, Lines, Shape};
 use crate::schema::{self, Schema};
 use crate::separator;
 use crate::text::shown;
-use crate::{headed_columns, header, unit_lines};
+use crate::{headed_columns, header, requests, unit_lines};
 
 /// Among so many lines with content the header is looked for.
 pub const LOOKED_AT: usize = 30;
@@ -135,6 +135,7 @@ fn below_header<'a>(
         false => headed_columns::columns(header.text, separator, options)
             .map_err(|problem| format!("line {}, the header: {problem}", header.number))?,
     };
+    let columns = requests::settled(columns, rows);
     let titles = lines[..at].iter().filter(|ahead| !ahead.is_blank());
     let mut notes = titles
         .map(|title| pass_over(&title.line, &header, &columns))
@@ -206,11 +207,13 @@ fn without_header<'a>(
         true => (Basis::Asked, None),
         false => (Basis::NoHeader, first.map(|ahead| no_header(&ahead.line))),
     };
+    let rows = first.map_or(Lines::of(b""), |ahead| ahead.from);
+    let columns = Columns::in_order_from(text, options.schema, separator, basis);
     Ok(Opening {
-        columns: Columns::in_order_from(text, options.schema, separator, basis),
+        columns: requests::settled(columns, rows),
         above: above.iter().map(|ahead| ahead.line).collect(),
         header: None,
-        rows: first.map_or(Lines::of(b""), |ahead| ahead.from),
+        rows,
         notes: note.into_iter().collect(),
     })
 }

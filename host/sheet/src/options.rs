@@ -281,20 +281,36 @@ What was typed and cannot be shown is a question mark.
 Floor beams, with --floor: one simply supported beam a row, with loads and a span
 in place of a moment and a shear force. All that is said above holds, but for
 --pack, since a floor beam is no row of cells. It has these cells, in this order;
-the last five are a member's, under their numbers:
+those with numbers are a member's, and the last two may be missing:
 
 {floor cells}
 
 The total load q, both loads together, has to be 100 to 100000 N/m. Where more than
 80 percent of it is permanent or long-term the regime is Б, and up to that В.
 M = q × span² / 8000 in N·mm and Q = q × span / 2000 in N, both rounded up, are
-checked as for a member of kind 2: strength alone, so that sag and lateral
-stability are not. Loads are design values, with their safety factors, the beam's
-own weight among the first. A load, q or a span that is blank, no whole number or
-outside its range is refusal 8, before all others. The table shows span, section, q,
-the regime by its letter and code, and M and Q in kN·m and kN,
-rounded up to two decimals; --csv has M and Q whole, in N·mm and N. --strengths
+checked as for a member of kind 2: strength alone, without lateral stability, and
+without sag unless Mn or n is filled. Loads are design values, with their safety
+factors, the beam's own weight among the first. A load, q or a span that is blank,
+no whole number or outside its range is refusal 8, before all others. The table
+shows span, section, q, the regime by its letter and code, and M and Q in kN·m and
+kN, rounded up to two decimals; --csv has M and Q whole, in N·mm and N. --strengths
 shows the regime that was found.
+
+Sag is checked beside strength where Mn or n is filled: it may be L / n on a span L.
+Mn is the moment of the same loads without their safety factors, so it is below M;
+it has to be in N·mm. n is a plain number, such as 150, 200 or 250, and a small
+letter in its heading, since N is a force. With the grade's modulus of elasticity in
+MPa, and e and w in hundredths for regime and moisture, E = modulus × e × w / 10000
+and Mf = 4 × E × b × h³ / (5 × L × n), both rounded down; the shear factor is
+1000000 + 19200000 × h² / L², its second part rounded up, and the utilisation is
+Mn × shear factor / Mf, rounded up. Mn or n that is blank beside the other, no whole
+number or outside its range is refusal 10, of the sag alone.
+A beam fails if either fails. The table shows the greater utilisation and its check,
+bending, shear or sag, and before them both verdicts, strength with the number of
+its check; --csv also has these figures. Where sag is refused, a beam that fails in
+strength fails, and any other counts as refused. A sheet in which no beam asks for
+sag has no columns of it; in one where some do, the others have a dash, in --csv
+nothing. Where the order decides, Mn and n are two columns after height h.
 
 Loads are in N/m alone: a heading or a line that speaks of kN/m or кгс/м stops the
 sheet, and so does a title that speaks of loads on an area, or of cm, above headings

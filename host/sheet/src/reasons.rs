@@ -58,9 +58,8 @@ fn extra_column(row: &SheetRow) -> String {
     match row.columns.basis {
         Basis::Headings => format!("column {column}: \"{text}\" stands below no heading"),
         Basis::NoHeader | Basis::Asked => {
-            let last = row.columns.schema.last_cell();
-            let (number, name) = (last.label(), last.words.name);
-            format!("column {column}: \"{text}\" stands past the last cell, {number} {name}")
+            let last = row.columns.last_cell().named();
+            format!("column {column}: \"{text}\" stands past the last cell, {last}")
         }
     }
 }

@@ -2,7 +2,7 @@
 use crate::columns::{typed, Column, Columns};
 use crate::fields::{self, Fields};
 use crate::headings::Heading;
-use crate::judgement::{Judged, Refused};
+use crate::judgement::{self, Judged, Refused};
 use crate::lines::Line;
 use crate::number::Typed;
 use crate::schema::Ask;
@@ -35,8 +35,8 @@ pub enum Outcome {
 
 impl Outcome {
     pub fn of_judged(judged: &Judged) -> Outcome {
-        match judged {
-            Ok(found) if found.verdict().passes => Outcome::Passed,
+        match judgement::governing(judged) {
+            Ok(governing) if governing.passes => Outcome::Passed,
             Ok(_) => Outcome::Failed,
             Err(_) => Outcome::Refused,
         }

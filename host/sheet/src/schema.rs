@@ -23,7 +23,7 @@ pub struct Schema {
     pub asked_for: &'static str,
     /// The headings of the column with the names.
     pub names: Vec<&'static str>,
-    /// In the order in which the add-in takes them. Each may be without a column, and is then blank.
+    /// In the order in which the add-in takes them, and last those of what is on request. Each may be without a column, and is then blank.
     pub cells: Vec<Cell>,
     /// The place of the cell with the kind, from 1, if there is one.
     pub kind: Option<usize>,
@@ -40,11 +40,26 @@ pub struct Schema {
     pub strengths: Ask<UsedStrengths>,
     /// Why a row is refused where no cell is named.
     pub whole_row_reason: fn(Refusal, &SheetRow) -> String,
+    /// Last are those of what is on request.
     pub answers: Vec<Answer>,
     pub verdict_table: Layout<Judgement>,
     pub strength_table: Layout<UsedStrengths>,
+    /// What is answered where a row asks for it, if there is such a thing.
+    pub on_request: Option<OnRequest>,
     /// What the headings name, by their keys.
     pub by_key: OnceLock<HashMap<String, Heading>>,
+}
+
+/// What is answered where a row asks for it, by filling a cell that it need not fill. A sheet in which none does has nothing of it.
+pub struct OnRequest {
+    /// How many cells stand before its own.
+    pub cells_before: usize,
+    /// How many answers stand before its own.
+    pub answers_before: usize,
+    /// In which units loads and forces have to be where a column holds one of its cells.
+    pub loads_wanted: &'static str,
+    /// The table in place of the other.
+    pub verdict_table: Layout<Judgement>,
 }
 
 /// Asks the add-in about cells in the order of the schema's.
@@ -69,8 +84,21 @@ impl Schema {
         &self.cells[place - 1]
     }
 
-    pub fn last_cell(&self) -> &Cell {
-        self.cell(self.cells.len())
+    /// Whether a row asks for what is on request by filling the cell at this place.
+    pub fn is_on_request(&self, place: usize) -> bool {
+        place > self.cells_without_request()
+    }
+
+    /// How many cells there are without those of what is on request.
+    pub fn cells_without_request(&self) -> usize {
+        let on_request = self.on_request.as_ref();
+        on_request.map_or(self.cells.len(), |on_request| on_request.cells_before)
+    }
+
+    /// How many answers there are without those of what is on request.
+    pub fn answers_without_request(&self) -> usize {
+        let on_request = self.on_request.as_ref();
+        on_request.map_or(self.answers.len(), |on_request| on_request.answers_before)
     }
 
     /// The place, from 1, and the cell that has this number in a row.
@@ -78,11 +106,6 @@ impl Schema {
         (1..)
             .zip(&self.cells)
             .find(|(_, cell)| cell.number == Some(number))
-    }
-
-    /// Whether a cell has this unit.
-    pub fn has_unit(&self, unit: &str) -> bool {
-        self.cells.iter().any(|cell| cell.words.unit == unit)
     }
 
     /// What a heading with this key names.
@@ -112,6 +135,14 @@ impl Cell {
     pub fn label(&self) -> String {
         self.number
             .map_or("–".to_owned(), |number| number.to_string())
+    }
+
+    /// Its number in a row, if it has one, and its name.
+    pub fn named(&self) -> String {
+        match self.number {
+            Some(number) => format!("{number} {}", self.words.name),
+            None => self.words.name.to_owned(),
+        }
     }
 
     /// In which unit it has to be.

@@ -1,6 +1,7 @@
 //! A table that a person reads: for each row a line, with what is found of it or why it is refused.
 use crate::judgement::Refused;
 use crate::number::Typed;
+use crate::opening::Opening;
 use crate::row::{Outcome, SheetRow};
 use crate::schema::Schema;
 use crate::table_lines::{Side, Slot, TableLine, TableLines};
@@ -54,6 +55,8 @@ pub fn whole_number(cell: Typed, digits: u32) -> String {
 
 pub struct Table<Found: 'static> {
     layout: &'static Layout<Found>,
+    /// The one in its place where a row asks for what is on request.
+    on_request: Option<&'static Layout<Found>>,
     lines: TableLines,
 }
 
@@ -66,12 +69,26 @@ impl<Found> Table<Found> {
         let slots = layout.columns.iter().map(slot).collect();
         Table {
             layout,
+            on_request: None,
             lines: TableLines::below(heading(schema, layout), slots, NAME),
         }
+    }
+
+    /// With another layout for a sheet in which a row asks for what is on request.
+    pub fn with(mut self, on_request: Option<&'static Layout<Found>>) -> Table<Found> {
+        self.on_request = on_request;
+        self
     }
 }
 
 impl<Found> Report for Table<Found> {
+    fn begin(&mut self, opening: &Opening) {
+        let on_request = self.on_request.filter(|_| opening.columns.requested);
+        if let Some(layout) = on_request {
+            *self = Table::new(opening.columns.schema, layout);
+        }
+    }
+
     fn row(&mut self, row: &SheetRow) -> Outcome {
         let found = (self.layout.find)(row);
         self.lines.add(line(row, &found, self.layout));

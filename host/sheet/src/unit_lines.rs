@@ -4,7 +4,7 @@ use crate::fields::Fields;
 use crate::header::has_number;
 use crate::headings::{self, Heading, Meaning};
 use crate::lines::Line;
-use crate::schema::{Cell, Schema};
+use crate::schema::Cell;
 use crate::text::shown;
 use crate::units::{self, Unit};
 
@@ -49,10 +49,9 @@ pub fn below_header(line: &Line, columns: &Columns) -> Option<String> {
 pub fn above_header(line: &Line, header: &Line, columns: &Columns) -> Option<String> {
     let of_cells = || {
         let fields = fields_of_cells(line, columns);
-        let schema = columns.schema;
         let foreign = fields
             .iter()
-            .find(|field| field.ends_in_foreign_unit(schema));
+            .find(|field| field.ends_in_foreign_unit(columns));
         foreign.map(|field| field.problem(line))
     };
     foreign_load_in(line, columns)
@@ -96,13 +95,21 @@ fn mistaken_for(cell: &Cell) -> Option<Unit> {
 
 /// A field of any column that speaks of a unit of loads or forces that no cell has.
 fn foreign_load_in(line: &Line, columns: &Columns) -> Option<String> {
-    let schema = columns.schema;
     let mut fields = Fields::of(line.text, columns.separator).enumerate();
     fields.find_map(|(place, field)| {
         let text = String::from_utf8_lossy(&field);
-        let has_load = units::has_one_of(&headings::words_of(&text), schema.foreign_loads);
-        has_load.then(|| in_column(line, place, &text, schema.loads_wanted))
+        let words = words_beside_symbols(&text, columns);
+        let has_load = units::has_one_of(&words, columns.schema.foreign_loads);
+        has_load.then(|| in_column(line, place, &text, columns.loads_wanted()))
     })
+}
+
+/// A text's words, but for headings in themselves that end in a small letter: Mn is no unit, and MN is one.
+fn words_beside_symbols(text: &str, columns: &Columns) -> Vec<String> {
+    let is_known = |word: &str| matches!(columns.meaning(word), Meaning::Known(_));
+    let mut words = headings::typed_words(text);
+    words.retain(|word| !(word.ends_with(char::is_lowercase) && is_known(word)));
+    headings::small(&words)
 }
 
 /// A field in the column of a cell.
@@ -147,10 +154,10 @@ impl UnitField {
     /// Whether the text is, or ends after a comma or in brackets with, a unit that no cell has, above a cell that has one.
     ///
     /// A symbol, as m in "b, h, m", is no unit.
-    fn ends_in_foreign_unit(&self, schema: &Schema) -> bool {
+    fn ends_in_foreign_unit(&self, columns: &Columns) -> bool {
         let ending = self.text.rsplit([',', '(', '[']).next().unwrap_or("");
-        let is_symbol = matches!(headings::read_in(schema, ending), Meaning::Known(_));
-        let is_foreign = units::is_foreign(&headings::words_of(ending), schema);
+        let is_symbol = matches!(columns.meaning(ending), Meaning::Known(_));
+        let is_foreign = units::is_foreign(&headings::words_of(ending), columns);
         is_foreign && !is_symbol && !self.cell.words.unit.is_empty()
     }
 

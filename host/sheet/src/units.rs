@@ -1,5 +1,5 @@
 //! Units as they stand after a name in a heading.
-use crate::schema::Schema;
+use crate::columns::Columns;
 use std::collections::HashMap;
 use std::sync::LazyLock;
 
@@ -80,10 +80,10 @@ pub fn is_any(given: &[String]) -> bool {
     read(given).is_some()
 }
 
-/// Whether these words are a unit that no cell of such a sheet has.
-pub fn is_foreign(given: &[String], schema: &Schema) -> bool {
+/// Whether these words are a unit that no cell of a sheet with these columns has.
+pub fn is_foreign(given: &[String], columns: &Columns) -> bool {
     match read(given) {
-        Some(Unit::Own(unit)) => !schema.has_unit(unit),
+        Some(Unit::Own(unit)) => !columns.cells().iter().any(|cell| cell.words.unit == unit),
         Some(_) => true,
         None => false,
     }

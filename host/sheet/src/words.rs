@@ -54,6 +54,12 @@ pub const FLOOR: [CellWords; 3] = [
     cell("span", "mm", "500 to 20000"),
 ];
 
+/// What a floor beam has for its sag: the moment and n of the limit span / n.
+pub const SAG: [CellWords; 2] = [
+    cell("unfactored moment Mn", "N·mm", "1 to 10000000000"),
+    cell("limit n", "", "100 to 500"),
+];
+
 /// Both loads of a floor beam together.
 pub const TOTAL_LOAD: CellWords = cell("total load q", "N/m", "100 to 100000");
 
@@ -98,6 +104,9 @@ pub fn kind(number: u64) -> Option<&'static str> {
         _ => None,
     }
 }
+
+/// The check of a beam's sag and its clauses in SP 64.13330.
+pub const SAG_CHECK: &str = "sag, 7.34 and 7.35";
 
 /// A check and its clause in SP 64.13330, for a row of this kind.
 pub fn check(number: u32, kind: Option<u64>) -> &'static str {

@@ -29,7 +29,7 @@ fn help_explains_floor_beams() {
     for part in [
         "has to be 100 to 100000 N/m",
         "Where more than\n80 percent of it is permanent or long-term the regime is Б, and up to that В.",
-        "strength alone, so that sag and lateral\nstability are not",
+        "strength alone, without lateral stability, and\nwithout sag unless Mn or n is filled",
         "Loads are design values",
         "M = q × span² / 8000 in N·mm and Q = q × span / 2000 in N, both rounded up",
         "is refusal 8, before all others",

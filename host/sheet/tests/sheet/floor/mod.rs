@@ -8,6 +8,7 @@ mod headings;
 mod help;
 mod other_sheets;
 mod refusals;
+mod sag;
 mod table;
 mod units;
 
@@ -20,7 +21,17 @@ pub const BEAM: &str = "B1,1600,400,4200,1,12,1000,45,160";
 /// How the table's line of `BEAM` ends.
 pub const JUDGED: &str = "   2000  В (3)      4.41     4.20  pass        89.3  bending, 7.9";
 
+/// The example by strength alone: without its last two columns, which ask for sag.
 pub fn example() -> String {
+    let before_sag = |line: &str| {
+        let (line, _n) = line.rsplit_once(',').unwrap();
+        let (line, _moment) = line.rsplit_once(',').unwrap();
+        format!("{line}\n")
+    };
+    example_with_sag().lines().map(before_sag).collect()
+}
+
+pub fn example_with_sag() -> String {
     let path = Path::new(env!("CARGO_MANIFEST_DIR")).join("../../examples/floor-beams.csv");
     std::fs::read_to_string(path).unwrap()
 }

@@ -1,0 +1,45 @@
+//! Whether some row of a sheet asks for what is on request, which has to be known before the first is answered.
+use crate::columns::{typed, Basis, Columns};
+use crate::fields;
+use crate::lines::{Line, Lines, Shape};
+use crate::number::Typed;
+
+/// The columns, knowing whether some row asks. Where the order decides and none does, there are no columns to ask in.
+pub fn settled(mut columns: Columns, rows: Lines) -> Columns {
+    columns.requested = is_in(rows, &columns);
+    match columns.basis {
+        Basis::NoHeader | Basis::Asked if !columns.requested => columns.without_request(),
+        _ => columns,
+    }
+}
+
+fn is_in(mut rows: Lines, columns: &Columns) -> bool {
+    let places = columns.on_request();
+    let Some(last) = places.last() else {
+        return false;
+    };
+    while let Some(line) = rows.next_line(Shape::In(columns)) {
+        let fills = asks(&line, columns, &places);
+        if fills && (columns.basis == Basis::Headings || ends_in(&line, columns, *last)) {
+            return true;
+        }
+    }
+    false
+}
+
+/// Whether a line fills one of these columns. A line without numbers is of units, or a header.
+fn asks(line: &Line, columns: &Columns, places: &[usize]) -> bool {
+    let (fields, _) = columns.split(line.text);
+    let is_filled = |place: &usize| {
+        let field = fields.get(*place);
+        field.is_some_and(|field| typed(field, columns.separator) != Typed::Blank)
+    };
+    places.iter().any(is_filled) && columns.numbers_from(0, line.text) > 0
+}
+
+/// Whether a line has a field at this place, and nothing past the columns: where the order decides, other columns than those
+/// that are asked in may stand after the cells, more of them or fewer.
+fn ends_in(line: &Line, columns: &Columns, last: usize) -> bool {
+    let (fields, mut rest) = columns.split(line.text);
+    fields.len() > last && rest.all(|field| fields::is_empty(&field))
+}
