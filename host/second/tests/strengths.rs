@@ -4,6 +4,8 @@
 mod both;
 #[path = "strengths/order.rs"]
 mod order;
+#[path = "common/row_order.rs"]
+mod row_order;
 
 use both::both;
 use lvl_addin::entry;
@@ -11,7 +13,7 @@ use lvl_addin::row::CELLS;
 use lvl_addin::strengths::{Strength, Strengths, STRENGTHS_BYTES, STRENGTH_DIVISOR};
 use lvl_second::cells::*;
 use lvl_second::rows::bytes_of;
-use lvl_second::rows::worked::{a, b, e, with};
+use lvl_second::rows::worked::{a, b, of_every_kind, with};
 
 /// What both implementations return and leave in an answer of this length; they must not differ, nor write at a
 /// refusal.
@@ -176,17 +178,10 @@ fn a_remainder_counts_parts_of_the_divisor() {
     assert_eq!(undivided, 3900 * 53 * 90 * 1000);
 }
 
-/// A row without faults of each kind, the tie with a joint.
-fn good_rows() -> [Cells; 5] {
-    let bent_strut = with(with(with(b(), KIND, 4), MOMENT, 2_000_000), SHEAR, 2000);
-    let bent_tie = with(with(bent_strut, KIND, 5), TABLE_16_ROW, 5);
-    [e(), a(), b(), bent_strut, bent_tie]
-}
-
 /// All four are given, also those that no check of the kind uses: as in row B, whatever the rest of the row is.
 #[test]
 fn strengths_depend_on_the_material_alone() {
-    for row in good_rows() {
+    for row in of_every_kind() {
         assert_strengths(
             &made_of(row, [3, 2, 13, 1000]),
             [(14_310, 0), (12_879, 0), (11_448, 0), (1860, 3_000_000)],

@@ -1,7 +1,11 @@
-//! What may be wrong with a cell of the host's, be it one of a row or of a floor beam, in the forms that it may have.
+//! What may be wrong with a cell of the host's, be it one of a row, of a floor beam or of a sag, in the forms that it may
+//! have.
+use super::bytes_of;
 use super::damaged::{put, FLOATS};
 use super::random::Random;
+use crate::cells::{cell, Cells, GRADE, KIND, REGIME, TABLE_16_ROW};
 use crate::{Paper, Rules};
+use lvl_addin::row::{CELLS, ROW_BYTES};
 use std::ops::RangeInclusive;
 
 /// What may be wrong with a cell.
@@ -31,6 +35,32 @@ pub fn pairs(all: impl Iterator<Item = Placed> + Clone) -> impl Iterator<Item = 
             .filter(move |high| high.0 > low.0)
             .map(move |high| [low, high])
     })
+}
+
+/// The faults that a good row may be given; to be blank is none in a cell that has to be.
+pub fn of_row(cells: &Cells) -> impl Iterator<Item = Placed> + Clone + '_ {
+    all(CELLS).filter(|&(place, fault)| cells[place].is_some() || fault != Fault::Blank)
+}
+
+/// A good row with these faults, each in one of its forms.
+pub fn spoilt_row(random: &mut Random, cells: &Cells, faults: &[Placed]) -> [u8; ROW_BYTES] {
+    let mut row = bytes_of(cells);
+    for &fault in faults {
+        spoil(random, &mut row, fault, range_in_row(cells, fault.0 + 1));
+    }
+    row
+}
+
+/// What a cell of a row may hold; the codes of Table 16 depend on the kind.
+fn range_in_row(cells: &Cells, number: usize) -> RangeInclusive<u64> {
+    match number {
+        KIND => 1..=5,
+        GRADE => 1..=3,
+        REGIME => 1..=11,
+        TABLE_16_ROW if matches!(cell(cells, KIND), Some(3 | 4)) => 1..=3,
+        TABLE_16_ROW => 4..=5,
+        _ => Paper::range(number).expect("every other cell has a range"),
+    }
 }
 
 /// Gives a cell a fault, in one of the forms that it may have; `range` is what the cell may hold.

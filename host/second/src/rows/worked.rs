@@ -1,4 +1,4 @@
-//! Document 01's worked rows A, B and E, of which the others are changes, and rows by their cells.
+//! Document 01's worked rows A, B and E, of which the others are changes, rows by their cells, and one of each kind.
 use crate::cells::*;
 use lvl_addin::row::CELLS;
 
@@ -70,4 +70,11 @@ pub fn e() -> Cells {
         (KE, 20),
         (KM, 2500),
     ])
+}
+
+/// A row without faults of each kind, the tie with a joint.
+pub fn of_every_kind() -> [Cells; 5] {
+    let bent_strut = with(with(with(b(), KIND, 4), MOMENT, 2_000_000), SHEAR, 2000);
+    let bent_tie = with(with(bent_strut, KIND, 5), TABLE_16_ROW, 5);
+    [e(), a(), b(), bent_strut, bent_tie]
 }
