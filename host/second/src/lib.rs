@@ -1,18 +1,21 @@
-//! A second implementation of the whole base, of the floor beam and of strengths with remainders, written from document
-//! 01 and the two requests alone. For tests: no host depends on it.
+//! A second implementation of the whole base, of the floor beam, of strengths with remainders and of the sag check,
+//! written from document 01 and the three requests alone. For tests: no host depends on it.
 //!
-//! The add-in is compared with it, row by row and beam by beam, and its speed is held to it. Every rule of document 01
-//! is one method of [`Rules`], every rule of the floor-beam request one of [`FloorRules`] and every rule of the request
-//! for strengths one of [`StrengthRules`]: [`Paper`] keeps them all, and the wrong copies in the tests change one each.
+//! The add-in is compared with it, row by row, beam by beam and sag by sag, and its speed is held to it. Every rule of
+//! document 01 is one method of [`Rules`], every rule of the floor-beam request one of [`FloorRules`], of the request
+//! for strengths one of [`StrengthRules`] and of the request for sags one of [`SagRules`]: [`Paper`] keeps them all, and
+//! the wrong copies in the tests change one each.
 //!
-//! Beside it stand the rows and beams to compare on ([`rows`], [`beams`]) and what is demanded of the verdicts in exact
-//! numbers ([`demand3`], [`floor_demand`], [`exact`]), which shares nothing with it.
+//! Beside it stand the rows, beams and sags to compare on ([`rows`], [`beams`], [`sags`]) and what is demanded of the
+//! verdicts in exact numbers ([`demand3`], [`floor_demand`], [`sag_demand`], [`exact`]), which shares nothing with it.
 
 pub mod beams;
 pub mod demand3;
 pub mod exact;
 pub mod floor_demand;
 pub mod rows;
+pub mod sag_demand;
+pub mod sags;
 
 mod acceptance;
 mod buckling;
@@ -27,6 +30,9 @@ mod joint;
 pub mod packing;
 mod reading;
 mod rules;
+pub mod sag;
+mod sag_host;
+mod sag_rules;
 mod schedule;
 mod strength;
 mod strength_host;
@@ -38,6 +44,7 @@ pub use cells::{Cells, Codes, Factors, Grade, Joint, Kind, Member};
 pub use floor_host::BeamRead;
 pub use floor_rules::FloorRules;
 pub use rules::Rules;
+pub use sag_rules::SagRules;
 pub use schedule::INPUT_BYTES;
 pub use strength_rules::StrengthRules;
 pub use verdict::Outcome;
@@ -50,6 +57,8 @@ impl Rules for Paper {}
 impl FloorRules for Paper {}
 
 impl StrengthRules for Paper {}
+
+impl SagRules for Paper {}
 
 /// The host's entry for checking: the returned number, and the answer in the lent bytes.
 pub fn check_bytes(row: &[u8], answer: &mut [u8]) -> u64 {
@@ -70,4 +79,9 @@ pub fn check_floor_beam_bytes(beam: &[u8], answer: &mut [u8]) -> u64 {
 /// bytes.
 pub fn strengths_bytes(row: &[u8], answer: &mut [u8]) -> u64 {
     Paper::strengths_bytes(row, answer)
+}
+
+/// The host's entry for the sag of a row: the returned number, and the answer in the lent bytes.
+pub fn check_sag_bytes(row: &[u8], sag: &[u8], answer: &mut [u8]) -> u64 {
+    Paper::check_sag_bytes(row, sag, answer)
 }

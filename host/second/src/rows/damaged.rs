@@ -37,7 +37,7 @@ pub const FLOATS: [u64; 32] = [
     0xFFFF_FFFF_FFFF_FFFF, // another
 ];
 
-/// Damages one or two places of a row, or of a floor beam, which has cells of the same form.
+/// Damages one or two places of a row, or of a floor beam or a sag, which have cells of the same form.
 pub fn damage(random: &mut Random, row: &mut [u8]) {
     for _ in 0..random.between(1, 2) {
         damage_once(random, row);
