@@ -1,14 +1,12 @@
-//! What copies do wrong with an answer, whatever the entry that they copy.
+//! What copies do wrong with an answer, whatever the entry that they copy. An entry takes what a host gives, be it one
+//! slice of bytes or two, and the lent bytes to the returned number.
 use lvl_addin::answer::Refusal;
 use lvl_second::{Paper, Rules};
 
-/// An entry: what the host gives and the lent bytes to the returned number.
-type Entry = fn(&[u8], &mut [u8]) -> u64;
-
 /// Answers of other lengths taken as well: as much is written as fits.
-pub fn in_part<const BYTES: usize>(
-    entry: Entry,
-    given: &[u8],
+pub fn in_part<G: ?Sized, const BYTES: usize>(
+    entry: impl Fn(&G, &mut [u8]) -> u64,
+    given: &G,
     answer: &mut [u8],
     taken: impl Fn(usize) -> bool,
 ) -> u64 {
@@ -25,12 +23,12 @@ pub fn in_part<const BYTES: usize>(
 }
 
 /// The answer's length refused before all that a rule does not refuse.
-pub fn fits_before<T>(
-    entry: Entry,
-    given: &[u8],
+pub fn fits_before<G: ?Sized, T>(
+    entry: impl Fn(&G, &mut [u8]) -> u64,
+    given: &G,
     answer: &mut [u8],
     fits: fn(usize) -> bool,
-    rule: impl Fn(&[u8]) -> Result<T, Refusal>,
+    rule: impl Fn(&G) -> Result<T, Refusal>,
 ) -> u64 {
     if rule(given).is_ok() && !fits(answer.len()) {
         5000
@@ -40,7 +38,11 @@ pub fn fits_before<T>(
 }
 
 /// The number of a refusal written to the answer as well.
-pub fn refusal_written(entry: Entry, given: &[u8], answer: &mut [u8]) -> u64 {
+pub fn refusal_written<G: ?Sized>(
+    entry: impl Fn(&G, &mut [u8]) -> u64,
+    given: &G,
+    answer: &mut [u8],
+) -> u64 {
     let code = entry(given, answer);
     if code >= 1000 && answer.len() >= 8 {
         answer[..8].copy_from_slice(&Paper::float_bytes(code as f64));
@@ -49,9 +51,9 @@ pub fn refusal_written(entry: Entry, given: &[u8], answer: &mut [u8]) -> u64 {
 }
 
 /// Nothing written where it should not be, as a copy has it.
-pub fn written_only_if(
-    entry: Entry,
-    given: &[u8],
+pub fn written_only_if<G: ?Sized>(
+    entry: impl Fn(&G, &mut [u8]) -> u64,
+    given: &G,
     answer: &mut [u8],
     written: impl Fn(u64) -> bool,
 ) -> u64 {

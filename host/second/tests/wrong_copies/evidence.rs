@@ -1,15 +1,17 @@
-//! What the wrong copies are held against: the entries' answers to the generated rows and beams, and the texts of
+//! What the wrong copies are held against: the entries' answers to the generated rows, beams and sags, and the texts of
 //! inputs.
 use lvl_addin::entry;
 use lvl_second::beams::{self, BeamCase, BeamCases};
 use lvl_second::rows::inputs;
 use lvl_second::rows::random::Random;
 use lvl_second::rows::{strength_answers, Case, Cases, LONGEST_ANSWER, LONGEST_SPACE};
-use lvl_second::{FloorRules, Paper, Rules, StrengthRules};
+use lvl_second::sags::{self, SagCase, SagCases};
+use lvl_second::{FloorRules, Paper, Rules, SagRules, StrengthRules};
 
-/// The rows and the floor beams, from the beginnings of their sequences.
+/// The rows, the floor beams and the sags, from the beginnings of their sequences.
 const ROWS: usize = 150_000;
 const BEAMS: usize = 60_000;
+const SAGS: usize = 150_000;
 
 /// The short inputs of `schedule`.
 const INPUTS: usize = 300;
@@ -34,10 +36,16 @@ struct AnsweredBeam {
     checked: Returned<{ beams::LONGEST_ANSWER }>,
 }
 
+struct AnsweredSag {
+    case: SagCase,
+    checked: Returned<{ sags::LONGEST_ANSWER }>,
+}
+
 /// The right answers.
 pub struct Evidence {
     rows: Vec<Answered>,
     beams: Vec<AnsweredBeam>,
+    sags: Vec<AnsweredSag>,
     inputs: Vec<(Vec<u8>, String)>,
 }
 
@@ -54,6 +62,10 @@ impl Evidence {
             checked: call(entry::check_floor_beam_bytes, case.beam(), case.answer),
             case,
         };
+        let answer_sag = |case: SagCase| AnsweredSag {
+            checked: call_with_sag(entry::check_sag_bytes, &case),
+            case,
+        };
         let rows = Cases::new().zip(strength_answers::lengths()).take(ROWS);
         let mut random = Random::new(7);
         let mut inputs: Vec<Vec<u8>> = (0..INPUTS).map(|_| inputs::any(&mut random)).collect();
@@ -61,6 +73,7 @@ impl Evidence {
         Evidence {
             rows: rows.map(answer).collect(),
             beams: BeamCases::new().take(BEAMS).map(answer_beam).collect(),
+            sags: SagCases::new().take(SAGS).map(answer_sag).collect(),
             inputs: inputs
                 .into_iter()
                 .map(|input| (input.clone(), Paper::schedule(&input)))
@@ -79,10 +92,19 @@ fn call<const LENGTH: usize>(
     (code, bytes)
 }
 
-/// The rules of document 01 and of every request: what a copy needs to be held against any of the answers.
-pub trait EveryRule: FloorRules + StrengthRules + 'static {}
+fn call_with_sag(
+    entry: fn(&[u8], &[u8], &mut [u8]) -> u64,
+    case: &SagCase,
+) -> Returned<{ sags::LONGEST_ANSWER }> {
+    let mut bytes = [BEFORE; sags::LONGEST_ANSWER];
+    let code = entry(case.row(), case.sag(), &mut bytes[..case.answer]);
+    (code, bytes)
+}
 
-impl<R: FloorRules + StrengthRules + 'static> EveryRule for R {}
+/// The rules of document 01 and of every request: what a copy needs to be held against any of the answers.
+pub trait EveryRule: FloorRules + StrengthRules + SagRules + 'static {}
+
+impl<R: FloorRules + StrengthRules + SagRules + 'static> EveryRule for R {}
 
 /// An entry, or the program, that may show a copy to be wrong.
 pub trait Shows: 'static {
@@ -128,6 +150,15 @@ impl Shows for Flooring {
     }
 }
 
+pub struct Sagging;
+impl Shows for Sagging {
+    fn shows<R: EveryRule>(evidence: &Evidence) -> bool {
+        let differs =
+            |sag: &AnsweredSag| call_with_sag(R::check_sag_bytes, &sag.case) != sag.checked;
+        evidence.sags.iter().any(differs)
+    }
+}
+
 /// By the text of some input.
 pub struct Scheduling;
 impl Shows for Scheduling {
@@ -166,25 +197,34 @@ macro_rules! shown_by {
 /// name and the one rule it changes.
 macro_rules! wrong_copies {
     (Rules, $($copies:tt)*) => {
-        declare_copies! { Rules FloorRules StrengthRules, $($copies)* }
+        declare_copies! { Rules [FloorRules StrengthRules SagRules], $($copies)* }
     };
     (FloorRules, $($copies:tt)*) => {
-        declare_copies! { FloorRules Rules StrengthRules, $($copies)* }
+        declare_copies! { FloorRules [Rules StrengthRules SagRules], $($copies)* }
     };
     (StrengthRules, $($copies:tt)*) => {
-        declare_copies! { StrengthRules Rules FloorRules, $($copies)* }
+        declare_copies! { StrengthRules [Rules FloorRules SagRules], $($copies)* }
+    };
+    (SagRules, $($copies:tt)*) => {
+        declare_copies! { SagRules [Rules FloorRules StrengthRules], $($copies)* }
+    };
+}
+
+/// Lets a copy keep all of these rules.
+macro_rules! keep_rules {
+    ($copy:ident [$($kept:ident)*]) => {
+        $(impl lvl_second::$kept for $copy {})*
     };
 }
 
 macro_rules! declare_copies {
     (
-        $changed:ident $right:ident $right_too:ident, $entry:ident:
+        $changed:ident $kept:tt, $entry:ident:
         $($(#[$note:meta])* $name:ident { $($rule:tt)* })*
     ) => {
         $($(#[$note])* pub struct $name;
         impl lvl_second::$changed for $name { $($rule)* }
-        impl lvl_second::$right for $name {}
-        impl lvl_second::$right_too for $name {})*
+        keep_rules! { $name $kept })*
 
         pub fn copies() -> Vec<crate::evidence::Wrong> {
             copies_shown_by::<crate::evidence::$entry>()

@@ -77,7 +77,7 @@ wrong_copies! { Rules, Checking:
     }
     ShorterAnswersFilledInPart {
         fn check_bytes(row: &[u8], answer: &mut [u8]) -> u64 {
-            answers::in_part::<ANSWER_BYTES>(Paper::check_bytes, row, answer, |length| (16..ANSWER_BYTES).contains(&length))
+            answers::in_part::<_, ANSWER_BYTES>(Paper::check_bytes, row, answer, |length| (16..ANSWER_BYTES).contains(&length))
         }
     }
     AnswerLengthBeforeTheRow {

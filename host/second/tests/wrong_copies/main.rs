@@ -1,7 +1,7 @@
 //! The test of the tests: copies of the rules that are wrong in one rule each, all of which must be seen.
 //!
-//! A copy is seen if it differs from the add-in's entries on rows and floor beams of the same sequences that `compare`,
-//! `compare_strengths` and `compare_beams` read, or, in the rules of unpacking and of the program `schedule`, from the
+//! A copy is seen if it differs from the add-in's entries on rows, floor beams and sags of the same sequences that
+//! `compare`, `compare_strengths`, `compare_beams` and `compare_sags` read, or, in the rules of unpacking and of the program `schedule`, from the
 //! right text, to which `schedule` holds the program. A copy that panics where the entry answers is seen as well.
 //!
 //! Left out: slenderness with < in place of ≤, at the limits and at 70. It is the same rule, since 12 L² = n² s²
@@ -19,20 +19,25 @@ mod host;
 mod joint;
 mod packed;
 mod reading;
+mod sag;
 mod schedule;
 mod strength;
 mod strengths;
 mod verdict;
 
-use evidence::{Checking, Evidence, Flooring, GivingStrengths, Packing, Scheduling, Shows, Wrong};
+use evidence::{
+    Checking, Evidence, Flooring, GivingStrengths, Packing, Sagging, Scheduling, Shows, Wrong,
+};
 use std::panic::{catch_unwind, set_hook, take_hook, AssertUnwindSafe};
 
-/// The least numbers of wrong copies of the row's rules, of the floor beam's, of the strengths' own and of those that
-/// strengths share with the row, lest some be lost.
+/// The least numbers of wrong copies of the row's rules, of the floor beam's, of the strengths' and the sags' own and of
+/// those that they share with the row, lest some be lost.
 const LEAST_OF_ROW: usize = 700;
 const LEAST_OF_BEAM: usize = 100;
 const LEAST_OF_STRENGTHS: usize = 180;
 const LEAST_SHARED_BY_STRENGTHS: usize = 460;
+const LEAST_OF_SAGS: usize = 470;
+const LEAST_SHARED_BY_SAGS: usize = 410;
 
 fn of_the_row() -> Vec<Wrong> {
     let mut copies = families::copies();
@@ -74,6 +79,18 @@ fn every_wrong_copy_is_seen() {
         LEAST_SHARED_BY_STRENGTHS,
         &evidence,
     );
+    assert_seen(
+        "wrong copies of the sag check",
+        &sag::own_copies(),
+        LEAST_OF_SAGS,
+        &evidence,
+    );
+    assert_seen(
+        "wrong copies of the row's rules that sags show",
+        &sag::shared_copies(),
+        LEAST_SHARED_BY_SAGS,
+        &evidence,
+    );
 }
 
 fn assert_seen(what: &str, copies: &[Wrong], least: usize, evidence: &Evidence) {
@@ -103,5 +120,6 @@ fn the_right_rules_are_not_seen_as_wrong() {
     assert!(!Packing::shows::<Paper>(&evidence));
     assert!(!GivingStrengths::shows::<Paper>(&evidence));
     assert!(!Flooring::shows::<Paper>(&evidence));
+    assert!(!Sagging::shows::<Paper>(&evidence));
     assert!(!Scheduling::shows::<Paper>(&evidence));
 }

@@ -107,6 +107,13 @@ pub fn of_beams<E: Shows>() -> Vec<Wrong> {
     copies
 }
 
+/// Of the figures that sags take from document 01: the factors of moisture and their bounds.
+pub fn of_sags<E: Shows>() -> Vec<Wrong> {
+    let mut copies = moistures::<E>();
+    copies.extend(moisture_bounds::<E>());
+    copies
+}
+
 /// One figure moved either way, by where it stands.
 fn moved_either_way<E: Shows, R: EveryRule>(what: &str, at: u64) -> [Wrong; 2] {
     EITHER_WAY.map(|by| slip::<E, R>(format!("{what} moved by {by}"), at, 0, by))

@@ -5,9 +5,11 @@
 mod cells;
 mod checks;
 mod figures;
+mod sag_answers;
+mod sags;
 mod stresses;
 
-use crate::evidence::{Checking, EveryRule, Flooring, GivingStrengths, Shows, Wrong};
+use crate::evidence::{Checking, EveryRule, Flooring, GivingStrengths, Sagging, Shows, Wrong};
 use lvl_second::Kind;
 use std::cell::Cell;
 
@@ -40,12 +42,19 @@ fn kind_code(kind: Kind) -> u64 {
 
 /// Families of document 01's rules, which keep those of the requests.
 macro_rules! keep_the_requests {
-    ($($family:ty),* $(,)?) => {
-        $(impl lvl_second::FloorRules for $family {}
-        impl lvl_second::StrengthRules for $family {})*
+    ($($family:ident),* $(,)?) => {
+        $(keep_rules! { $family [FloorRules StrengthRules SagRules] })*
     };
 }
 use keep_the_requests;
+
+/// Families of the sags' rules, which keep all others.
+macro_rules! keep_all_but_the_sags {
+    ($($family:ident),* $(,)?) => {
+        $(keep_rules! { $family [Rules FloorRules StrengthRules] })*
+    };
+}
+use keep_all_but_the_sags;
 
 /// Those that rows have to show.
 pub fn copies() -> Vec<Wrong> {
@@ -73,4 +82,18 @@ pub fn on_strengths() -> Vec<Wrong> {
 /// Those of the strengths' own rules.
 pub fn of_stresses() -> Vec<Wrong> {
     stresses::copies()
+}
+
+/// Those that sags have to show as well.
+pub fn on_sags() -> Vec<Wrong> {
+    let mut copies = figures::of_sags::<Sagging>();
+    copies.extend(cells::copies_shown_by::<Sagging>());
+    copies
+}
+
+/// Those of the sags' own rules.
+pub fn of_sags() -> Vec<Wrong> {
+    let mut copies = sags::copies();
+    copies.extend(sag_answers::copies());
+    copies
 }

@@ -4,7 +4,7 @@ use crate::evidence::{EveryRule, GivingStrengths, Wrong};
 use lvl_addin::answer::Refusal;
 use lvl_second::cells::{Grade, Member};
 use lvl_second::exact_strength::{Stress, STRESSES};
-use lvl_second::{FloorRules, Paper, Rules, StrengthRules};
+use lvl_second::{Paper, StrengthRules};
 
 /// The other stress, where the slip is at this one.
 fn confused(stress: Stress) -> Stress {
@@ -101,9 +101,8 @@ impl StrengthRules for StressOfKindLeftOut {
 }
 
 macro_rules! keep_the_others {
-    ($($family:ty),* $(,)?) => {
-        $(impl Rules for $family {}
-        impl FloorRules for $family {})*
+    ($($family:ident),* $(,)?) => {
+        $(keep_rules! { $family [Rules FloorRules SagRules] })*
     };
 }
 

@@ -19,7 +19,7 @@ fn with(verdict: &BeamVerdict, at: usize, float: f64) -> [u8; BEAM_ANSWER_BYTES]
 
 /// The entry where other answer lengths are taken as well.
 fn in_part(beam: &[u8], answer: &mut [u8], taken: impl Fn(usize) -> bool) -> u64 {
-    answers::in_part::<BEAM_ANSWER_BYTES>(Paper::check_beam_bytes, beam, answer, taken)
+    answers::in_part::<_, BEAM_ANSWER_BYTES>(Paper::check_beam_bytes, beam, answer, taken)
 }
 
 /// The entry where the answer's length is refused before all that a rule does not refuse.

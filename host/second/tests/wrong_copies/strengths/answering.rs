@@ -34,7 +34,7 @@ fn bytes_changed(
 
 /// The entry where other answer lengths are taken as well.
 fn in_part(row: &[u8], answer: &mut [u8], taken: impl Fn(usize) -> bool) -> u64 {
-    answers::in_part::<STRENGTHS_BYTES>(Paper::strengths_bytes, row, answer, taken)
+    answers::in_part::<_, STRENGTHS_BYTES>(Paper::strengths_bytes, row, answer, taken)
 }
 
 /// The entry where the answer's length is refused before all that a rule does not refuse.
