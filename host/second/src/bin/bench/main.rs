@@ -1,21 +1,19 @@
-//! How fast the add-in's entries are beside the second implementation, on the same rows and floor beams in the same
-//! run.
+//! How fast the add-in's entries are beside the second implementation, on the same rows, floor beams and sags in the
+//! same run.
 //!
 //! `bench` prints rows per second and their ratio. `bench once WHO WHAT MIX ROWS` only runs, for a tool that counts
 //! instructions; a run of 0 rows gives what is to be taken off. WHO is `entry` or `second`, WHAT `check`, `strengths`,
-//! `pack` or `floor`, and MIX a name of the table without its spaces.
+//! `pack`, `floor` or `sag`, and MIX a name of the table without its spaces.
+mod mixes;
+
 use lvl_addin::entry;
-use lvl_addin::floor_beam::{BEAM_ANSWER_BYTES, BEAM_BYTES};
+use lvl_addin::floor_beam::BEAM_ANSWER_BYTES;
 use lvl_addin::row::{ANSWER_BYTES, PACKED_BYTES, ROW_BYTES};
+use lvl_addin::sag::SAG_ANSWER_BYTES;
 use lvl_addin::strengths::STRENGTHS_BYTES;
-use lvl_second::rows::random::Random;
-use lvl_second::rows::{bytes_of, judged, refused};
-use lvl_second::{beams, Cells, Paper, Rules};
+use mixes::{Mix, ROWS};
 use std::hint::black_box;
 use std::time::{Duration, Instant};
-
-/// The rows or beams of a mix: few enough to stay in the cache.
-const ROWS: usize = 1000;
 
 /// How often each is timed, in turns, and for how long at a time. The best time counts.
 const REPEATS: usize = 9;
@@ -61,74 +59,19 @@ const FLOOR: Operation = Operation {
     second: lvl_second::check_floor_beam_bytes,
 };
 
-/// Rows of one sort, or floor beams, by their bytes.
-struct Mix<const BYTES: usize> {
-    name: &'static str,
-    rows: Vec<[u8; BYTES]>,
-}
-
-impl<const BYTES: usize> Mix<BYTES> {
-    /// The first rows of a maker that are as wanted.
-    fn new(
-        name: &'static str,
-        make: impl Fn(&mut Random) -> [u8; BYTES],
-        wanted: impl Fn(&[u8; BYTES]) -> bool,
-    ) -> Mix<BYTES> {
-        let mut random = Random::new(1);
-        let rows = std::iter::repeat_with(|| make(&mut random))
-            .filter(wanted)
-            .take(ROWS)
-            .collect();
-        Mix { name, rows }
-    }
-}
-
-/// Whether an entry judges what it is given.
-fn is_judged(entry: Entry, given: &[u8], answer: usize) -> bool {
-    entry(given, &mut vec![0; answer]) < 1000
-}
-
-/// Rows of a maker that are judged, or that are refused.
-fn rows(name: &'static str, judged: bool, make: impl Fn(&mut Random) -> Cells) -> Mix<ROW_BYTES> {
-    Mix::new(
-        name,
-        |random| bytes_of(&make(random)),
-        |row| is_judged(Paper::check_bytes, row, ANSWER_BYTES) == judged,
-    )
-}
-
-fn mixes() -> Vec<Mix<ROW_BYTES>> {
-    vec![
-        rows("kind 1", true, |random| judged::row(random, 1, false)),
-        rows("kind 1 joint", true, |random| judged::row(random, 1, true)),
-        rows("kind 2", true, |random| judged::row(random, 2, false)),
-        rows("kind 3", true, |random| judged::row(random, 3, false)),
-        rows("kind 4", true, |random| judged::row(random, 4, false)),
-        rows("kind 5", true, |random| judged::row(random, 5, false)),
-        rows("all kinds", true, judged::any_row),
-        rows("refused", false, refused::row),
-    ]
-}
-
-/// Beams of a maker that are judged, or that are refused.
-fn floor_beams(
-    name: &'static str,
-    judged: bool,
-    make: impl Fn(&mut Random) -> [u8; BEAM_BYTES],
-) -> Mix<BEAM_BYTES> {
-    Mix::new(name, make, |beam| {
-        is_judged(FLOOR.second, beam, BEAM_ANSWER_BYTES) == judged
-    })
-}
-
-fn beam_mixes() -> Vec<Mix<BEAM_BYTES>> {
-    vec![
-        floor_beams("beams", true, |random| {
-            beams::bytes_of(&beams::judged::beam(random))
-        }),
-        floor_beams("refused", false, beams::faults::beam),
-    ]
-}
+/// The operation on sags, each with its row.
+const SAG: Operation = Operation {
+    name: "sag",
+    lent: SAG_ANSWER_BYTES,
+    entry: |given, answer| {
+        let (row, sag) = given.split_at(ROW_BYTES);
+        entry::check_sag_bytes(row, sag, answer)
+    },
+    second: |given, answer| {
+        let (row, sag) = given.split_at(ROW_BYTES);
+        lvl_second::check_sag_bytes(row, sag, answer)
+    },
+};
 
 /// Calls an entry on every row once.
 fn pass<const BYTES: usize>(entry: Entry, rows: &[[u8; BYTES]], lent: &mut [u8]) {
@@ -166,9 +109,10 @@ fn print_table() {
         "", "rows", "entry", "second", "ratio"
     );
     for operation in &OPERATIONS {
-        print_lines(operation, &mixes());
+        print_lines(operation, &mixes::of_rows());
     }
-    print_lines(&FLOOR, &beam_mixes());
+    print_lines(&FLOOR, &mixes::of_beams());
+    print_lines(&SAG, &mixes::of_sags());
 }
 
 fn print_lines<const BYTES: usize>(operation: &Operation, mixes: &[Mix<BYTES>]) {
@@ -186,10 +130,13 @@ fn print_lines<const BYTES: usize>(operation: &Operation, mixes: &[Mix<BYTES>]) 
 fn run_once(who: &str, what: &str, mix: &str, rows: &str) -> Option<()> {
     let rows = rows.parse().ok()?;
     if what == FLOOR.name {
-        return run_mix(&FLOOR, who, &beam_mixes(), mix, rows);
+        return run_mix(&FLOOR, who, &mixes::of_beams(), mix, rows);
+    }
+    if what == SAG.name {
+        return run_mix(&SAG, who, &mixes::of_sags(), mix, rows);
     }
     let operation = OPERATIONS.iter().find(|operation| operation.name == what)?;
-    run_mix(operation, who, &mixes(), mix, rows)
+    run_mix(operation, who, &mixes::of_rows(), mix, rows)
 }
 
 fn run_mix<const BYTES: usize>(
@@ -222,7 +169,7 @@ fn main() {
         [] => print_table(),
         ["once", who, what, mix, rows] if run_once(who, what, mix, rows).is_some() => {}
         _ => {
-            eprintln!("usage: bench [once entry|second check|strengths|pack|floor MIX ROWS]");
+            eprintln!("usage: bench [once entry|second check|strengths|pack|floor|sag MIX ROWS]");
             std::process::exit(2);
         }
     }
