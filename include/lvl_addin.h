@@ -168,9 +168,9 @@
  *    9 to 17         unfactored moment Mn, N mm             1 to 10000000000
  *   18 to 26         n of the limit L / n                   100 to 500
  *
- * Mn is the beam's greatest moment under the loads for which sag is limited,
- * without their safety factors. Of the row the check uses cells 2, 3, 4, 6 and
- * 7: neither M and Q, which are design values, nor the office factor.
+ * Mn is the beam's greatest moment under its loads without their safety factors,
+ * all that act in the row's regime. Of the row the check uses cells 2, 3, 4, 6
+ * and 7: neither M and Q, which are design values, nor the office factor.
  *
  * The beam sags by 5 * Mn * L^2 / (48 * E * I), with I = b * h^3 / 12, enlarged
  * for shear. With nothing rounded that is at most L / n exactly where Mn * the
@@ -191,6 +191,10 @@
  *
  * Mf is made of E as rounded, the utilisation of Mf and the shear factor as
  * rounded. No product of whole numbers here exceeds 2^63.
+ *
+ * The edition of SP 64.13330 in force has e = 90 in regime Ge (4) too: there E
+ * is overstated by 11 percent, which is unsafe. Hand over regime Ve (3) for Ge:
+ * strengths are the same in both.
  *
  * The answer is seven doubles in 56 bytes, each lowest byte first, all whole
  * numbers:
@@ -279,8 +283,8 @@
  * Windows or macOS (other object files and conventions), on ARM, or in 32-bit
  * programs.
  *
- * Stack: lvl_check_row 680 bytes, lvl_strengths 728 bytes, lvl_pack_row 424
- * bytes, lvl_check_floor_beam 776 bytes, lvl_check_sag 1312 bytes. No heap, no
+ * Stack: lvl_check_row 696 bytes, lvl_strengths 744 bytes, lvl_pack_row 424
+ * bytes, lvl_check_floor_beam 792 bytes, lvl_check_sag 640 bytes. No heap, no
  * system call, no lock, and no data of its own that it writes.
  *
  * Threads: any number may call at once, each with a buffer of its own to write

@@ -180,7 +180,7 @@ pub fn sag_verdict(passes: bool, answer: &[u8; SAG_ANSWER_BYTES]) -> SagVerdict 
         passes,
         utilisation: float_at(answer, 0) as u32,
         modulus: float_at(answer, 8) as u32,
-        duration: float_at(answer, 16) as u32,
+        elastic_duration: float_at(answer, 16) as u32,
         moisture: float_at(answer, 24) as u32,
         design_modulus: float_at(answer, 32) as u32,
         limit_moment: float_at(answer, 40) as u64,

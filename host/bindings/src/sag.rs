@@ -30,7 +30,7 @@ pub struct SagVerdict {
     /// The modulus of elasticity along the grain of Table В.2а, in MPa.
     pub modulus: u32,
     /// e, the load duration factor for elasticity, in hundredths.
-    pub duration: u32,
+    pub elastic_duration: u32,
     /// w, the moisture factor, in hundredths.
     pub moisture: u32,
     /// E, the design modulus of elasticity in MPa, rounded down.

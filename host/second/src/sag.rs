@@ -180,7 +180,7 @@ pub fn judge_sag<R: SagRules>(cells: &Cells, member: &Member, sag: &Sag) -> SagV
         passes: R::passes(utilisation),
         utilisation: utilisation as u32,
         modulus: figures.elastic.modulus as u32,
-        duration: figures.elastic.duration as u32,
+        elastic_duration: figures.elastic.duration as u32,
         moisture: figures.elastic.moisture as u32,
         design_modulus: figures.design_modulus as u32,
         limit_moment: figures.limit_moment,

@@ -37,7 +37,7 @@ pub fn sag_answer_bytes<R: SagRules>(verdict: &SagVerdict) -> [u8; SAG_ANSWER_BY
     let floats = [
         f64::from(verdict.utilisation),
         f64::from(verdict.modulus),
-        f64::from(verdict.duration),
+        f64::from(verdict.elastic_duration),
         f64::from(verdict.moisture),
         f64::from(verdict.design_modulus),
         verdict.limit_moment as f64,

@@ -74,7 +74,7 @@ const MODULUS: Answer = Answer {
 
 const DURATION: Answer = Answer {
     heading: "e in hundredths",
-    text: |_, judged| shown(verdict(judged).map(|sag| sag.duration)),
+    text: |_, judged| shown(verdict(judged).map(|sag| sag.elastic_duration)),
 };
 
 const MOISTURE: Answer = Answer {

@@ -32,7 +32,9 @@ impl Judged {
     /// Modulus × e × w, which E is the quotient of.
     pub fn undivided_modulus(&self) -> u128 {
         let answer = &self.answer;
-        u128::from(answer.modulus) * u128::from(answer.duration) * u128::from(answer.moisture)
+        u128::from(answer.modulus)
+            * u128::from(answer.elastic_duration)
+            * u128::from(answer.moisture)
     }
 
     /// 4 × b × h³.

@@ -54,7 +54,7 @@ wrong_copies! { SagRules, Sagging:
     }
     DurationAsFraction {
         fn sag_answer_bytes(verdict: &SagVerdict) -> [u8; SAG_ANSWER_BYTES] {
-            with(verdict, 2, f64::from(verdict.duration) / 100.0)
+            with(verdict, 2, f64::from(verdict.elastic_duration) / 100.0)
         }
     }
     MoistureAsFraction {
@@ -69,7 +69,7 @@ wrong_copies! { SagRules, Sagging:
     }
     DesignModulusUnrounded {
         fn sag_answer_bytes(verdict: &SagVerdict) -> [u8; SAG_ANSWER_BYTES] {
-            let product = verdict.modulus * verdict.duration * verdict.moisture;
+            let product = verdict.modulus * verdict.elastic_duration * verdict.moisture;
             with(verdict, 4, f64::from(product) / 10_000.0)
         }
     }

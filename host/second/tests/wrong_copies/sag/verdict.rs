@@ -10,7 +10,7 @@ const ANOTHER: SagVerdict = SagVerdict {
     passes: true,
     utilisation: 718_793,
     modulus: 12_000,
-    duration: 90,
+    elastic_duration: 90,
     moisture: 100,
     design_modulus: 10_800,
     limit_moment: 14_580_000,
@@ -45,7 +45,7 @@ fn holds(moment: u64, shear_factor: u64, limit_moment: u64) -> bool {
 fn holds_unrounded(verdict: &SagVerdict, member: &Member, sag: &Sag, thousandths: u64) -> bool {
     let [width, height] = [member.width, member.height].map(u128::from);
     let [span, limit] = [sag.span, sag.limit].map(u128::from);
-    let modulus = u128::from(verdict.modulus * verdict.duration * verdict.moisture);
+    let modulus = u128::from(verdict.modulus * verdict.elastic_duration * verdict.moisture);
     let enlarged = u128::from(sag.moment * thousandths)
         * (1_000_000 * span * span + 19_200_000 * height * height);
     let allowed = 1_000_000 * 1000 * 4 * modulus * width * height.pow(3);
@@ -88,7 +88,7 @@ wrong_copies! { SagRules, Sagging:
     PassesByTheModulusUp {
         fn judge_sag(cells: &Cells, member: &Member, sag: &Sag) -> SagVerdict {
             passing_if(cells, member, sag, |right| {
-                let up = u64::from(right.modulus * right.duration * right.moisture).div_ceil(10_000);
+                let up = u64::from(right.modulus * right.elastic_duration * right.moisture).div_ceil(10_000);
                 let limit = Paper::limit_moment(up, member.width, member.height, sag);
                 holds(sag.moment, right.shear_factor.into(), limit)
             })

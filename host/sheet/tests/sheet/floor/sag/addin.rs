@@ -118,7 +118,7 @@ fn expected(beam: &str) -> Vec<String> {
             word(sag.passes),
             sag.utilisation,
             sag.modulus,
-            sag.duration,
+            sag.elastic_duration,
             sag.moisture,
             sag.design_modulus,
             sag.limit_moment,

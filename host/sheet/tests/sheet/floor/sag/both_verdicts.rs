@@ -127,7 +127,7 @@ fn sag_is_asked_of_the_beam_as_its_strength_was() {
             let line = format!("B1,{loads},{span},2,15,777,45,160,1000000,250");
             let found = entry::check_floor_beam(&cells_of(&line)).unwrap();
             let sag = sag_of(&line, &found).unwrap().unwrap();
-            assert_eq!(sag.duration, duration);
+            assert_eq!(sag.elastic_duration, duration);
             let out = csv(&[line]).out;
             let shown = out.lines().nth(1).unwrap();
             let limit = answer(&out, shown, "limit moment Mf in N·mm");
