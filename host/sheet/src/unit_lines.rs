@@ -107,7 +107,7 @@ fn foreign_load_in(line: &Line, columns: &Columns) -> Option<String> {
 /// A text's words, but for headings in themselves that end in a small letter: Mn is no unit, and MN is one.
 fn words_beside_symbols(text: &str, columns: &Columns) -> Vec<String> {
     let is_known = |word: &str| matches!(columns.meaning(word), Meaning::Known(_));
-    let mut words = headings::typed_words(text);
+    let mut words = units::joined(&headings::typed_words(text));
     words.retain(|word| !(word.ends_with(char::is_lowercase) && is_known(word)));
     headings::small(&words)
 }

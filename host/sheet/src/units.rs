@@ -30,17 +30,34 @@ const SPELLINGS: &[(&str, &[&str])] = &[
 /// Units of forces and moments that no cell has: what is typed in them would be far too small.
 #[rustfmt::skip]
 const FOREIGN_FORCES: &[&str] = &[
-    "kN", "MN", "daN", "kgf", "кгс", "tf", "тс", "тыс. Н", "kip", "kips", "lbf",
-    "N·m", "N·cm", "kN·m", "kN·cm", "kN·mm", "MN·m", "kgf·m", "кгс·м", "кгс·см", "tf·m", "тс·м", "kip·ft",
+    "kN", "MN", "daN", "kgf", "кгс", "tf", "тс", "kip", "kips", "lbf",
+    "N·m", "N·cm", "daN·m", "daN·cm", "kN·m", "kN·cm", "kN·mm", "MN·m", "kgf·m", "кгс·м", "кгс·см", "kg·m", "kg·cm",
+    "tf·m", "тс·м", "t·m", "lbf·ft", "ft·lbf", "lb·ft", "ft·lb", "lbf·in", "lb·in", "kip·ft", "kip·in",
 ];
 
 /// Units of loads on a length that no cell has.
 #[rustfmt::skip]
 const FOREIGN_LINE_LOADS: &[&str] = &[
     "kN/m", "kN/cm", "kN/mm", "MN/m", "daN/m", "N/cm", "N/mm", "kgf/m", "кгс/м", "kg/m", "tf/m", "тс/м", "t/m",
-    "тыс. Н/м", "lbf/ft", "kip/ft", "kN per m", "кН/п.м", "кН/пог.м", "кН/м.п", "кгс/п.м", "кгс/пог.м", "кгс/м.п",
+    "lbf/ft", "kip/ft", "kN per m", "кН/п.м", "кН/пог.м", "кН/м.п", "кгс/п.м", "кгс/пог.м", "кгс/м.п",
     "кг/п.м", "кг/пог.м", "кг/м.п", "тс/п.м", "тс/пог.м", "т/п.м", "т/пог.м",
 ];
+
+/// What stands before or behind a unit of loads, forces or moments and makes a greater one of it.
+const MULTIPLES: &[&str] = &["тыс", "млн", "10³", "10⁶", "x10³", "x10⁶", "х10³", "х10⁶"];
+
+/// The units that have multiples, and what those are.
+const HAVE_MULTIPLES: [(&str, Unit); 3] = [
+    ("N", Unit::ForeignForce),
+    ("N·mm", Unit::ForeignForce),
+    ("N/m", Unit::ForeignLineLoad),
+];
+
+/// What stands before a length in a unit of moments and may be no unit of forces by itself, in the letters that are usual.
+const FORCES_OF_MOMENTS: [&str; 6] = ["N", "Н", "kg", "кг", "t", "т"];
+
+/// Signs of multiplication.
+const TIMES: &str = "·*×⋅•∙";
 
 /// Lengths in them would be typed ten times too small, which is within the ranges of spans and effective lengths.
 const CENTIMETRES: &[&str] = &["cm"];
@@ -55,7 +72,7 @@ const AREA_LOADS: &[&str] = &[
 /// Other units that no cell has, and that stand in other tables for the same quantities.
 #[rustfmt::skip]
 const FOREIGN: &[&str] = &[
-    "dm", "m", "km", "in", "ft", "kg", "t", "t·m", "MPa", "psi", "N/mm²", "N/cm²", "kN/cm²", "kgf/cm²", "кгс/см²",
+    "dm", "m", "km", "in", "ft", "kg", "t", "MPa", "psi", "N/mm²", "N/cm²", "kN/cm²", "kgf/cm²", "кгс/см²",
     "mm²", "cm²", "m²",
 ];
 
@@ -91,11 +108,29 @@ pub fn is_foreign(given: &[String], columns: &Columns) -> bool {
 
 /// Whether one of these words, or two that can only be one unit, are one of these units.
 pub fn has_one_of(words: &[String], wanted: &[Unit]) -> bool {
-    // Thousands of a unit, and loads on a running metre, п.м, or on a square one, кв.м.
-    let begins_unit = |word: &str| word == "тыс" || word.contains('/');
-    let pairs = words.windows(2).filter(|pair| begins_unit(&pair[0]));
+    let is_more = |word: &&String| !is_times(word);
+    let words: Vec<String> = words.iter().filter(is_more).cloned().collect();
+    // Multiples of a unit, and loads on a running metre, п.м, or on a square one, кв.м.
+    let is_one = |pair: &&[String]| pair[0].contains('/') || pair.iter().any(is_multiple);
+    let pairs = words.windows(2).filter(is_one);
     let mut read = words.chunks(1).chain(pairs).filter_map(read);
     read.any(|unit| wanted.contains(&unit))
+}
+
+/// Words as they were typed, and as one those of a moment's unit that a blank or a full stop parts: t m, кг.м. Initials, as
+/// T.M., have another case.
+pub fn joined(typed: &[String]) -> Vec<String> {
+    let mut joined: Vec<String> = Vec::new();
+    for word in typed.iter().filter(|word| !is_times(word)) {
+        let is_arm = matches!(word.as_str(), "m" | "м" | "cm" | "см");
+        match joined.last_mut() {
+            Some(force) if is_arm && FORCES_OF_MOMENTS.contains(&force.as_str()) => {
+                force.push_str(word);
+            }
+            _ => joined.push(word.clone()),
+        }
+    }
+    joined
 }
 
 /// Whether these words end in a spelling of the unit.
@@ -106,6 +141,16 @@ pub fn end_in(unit: &str, words: &[String]) -> bool {
 fn read(given: &[String]) -> Option<Unit> {
     static BY_KEY: LazyLock<HashMap<String, Unit>> = LazyLock::new(by_key);
     BY_KEY.get(&key(without_preposition(given))).copied()
+}
+
+/// Whether a word is a sign of multiplication and nothing else.
+fn is_times(word: &str) -> bool {
+    word.chars().all(|letter| TIMES.contains(letter))
+}
+
+fn is_multiple(word: &String) -> bool {
+    let key = key(std::slice::from_ref(word));
+    MULTIPLES.iter().any(|multiple| key_of(multiple) == key)
 }
 
 fn by_key() -> HashMap<String, Unit> {
@@ -124,8 +169,31 @@ fn by_key() -> HashMap<String, Unit> {
     let others = FOREIGN.iter().map(|unit| (*unit, Unit::Foreign));
     let loads = forces.chain(line_loads).chain(area_loads);
     let all = own.chain(loads).chain(centimetres).chain(others);
-    all.map(|(spelling, unit)| (key(&crate::headings::words_of(spelling)), unit))
+    all.map(|(spelling, unit)| (key_of(spelling), unit))
+        .chain(multiples())
         .collect()
+}
+
+/// The keys of all multiples.
+fn multiples() -> impl Iterator<Item = (String, Unit)> {
+    let units = HAVE_MULTIPLES.iter().flat_map(|(own, multiple)| {
+        let spellings = SPELLINGS.iter().find(|(unit, _)| unit == own);
+        let others = spellings.map_or(&[][..], |(_, spellings)| spellings);
+        let all = [own].into_iter().chain(others);
+        all.map(|spelling| (key_of(spelling), *multiple))
+    });
+    units.flat_map(|(unit, multiple)| {
+        let both_ways = |factor: &&str| {
+            let factor = key_of(factor);
+            [format!("{factor}{unit}"), format!("{unit}{factor}")]
+        };
+        let keys = MULTIPLES.iter().flat_map(both_ways);
+        keys.map(|key| (key, multiple)).collect::<Vec<_>>()
+    })
+}
+
+fn key_of(spelling: &str) -> String {
+    key(&crate::headings::words_of(spelling))
 }
 
 /// "in mm", "в мм"; alone, "in" is an inch.
@@ -142,6 +210,7 @@ fn key(words: &[String]) -> String {
     let latin = |letter| match letter {
         'а' => 'a',
         'г' => 'g',
+        'д' => 'd',
         'к' => 'k',
         'м' => 'm',
         'н' | 'h' => 'n',
@@ -150,6 +219,6 @@ fn key(words: &[String]) -> String {
         'т' => 't',
         other => other,
     };
-    let counts = |letter: &char| !"·*×⋅•∙-–—−^".contains(*letter);
+    let counts = |letter: &char| !TIMES.contains(*letter) && !"-–—−^".contains(*letter);
     words.concat().chars().filter(counts).map(latin).collect()
 }

@@ -12,6 +12,7 @@ mod formulas;
 mod headers;
 mod headings;
 mod large_and_broken;
+mod moment_units;
 mod numbers;
 mod output_file;
 mod packing;
