@@ -4,6 +4,7 @@ use crate::encoding::Encoding;
 use crate::fields::{self, Fields};
 use crate::formulas::kept_as_text;
 use crate::headings::Heading;
+use crate::moment_doubts::{self, MomentDoubts};
 use crate::opening::Opening;
 use crate::row::{Outcome, SheetRow};
 use crate::schema::Schema;
@@ -33,6 +34,7 @@ pub enum Lettering {
 pub struct AnswerColumns {
     output: Vec<u8>,
     lettering: Lettering,
+    doubts: MomentDoubts,
 }
 
 impl AnswerColumns {
@@ -40,6 +42,7 @@ impl AnswerColumns {
         AnswerColumns {
             output: Vec::new(),
             lettering,
+            doubts: MomentDoubts::default(),
         }
     }
 
@@ -129,7 +132,12 @@ impl Report for AnswerColumns {
             answers.map(|answer| (answer.text)(row, &judged)).collect(),
             row.extra.clone(),
         );
+        self.doubts.add(row, moment_doubts::of_row(row, &judged));
         Outcome::of_judged(&judged)
+    }
+
+    fn notes(&self) -> Vec<String> {
+        self.doubts.notes()
     }
 
     fn finish(self) -> Vec<u8> {

@@ -22,6 +22,7 @@ pub mod judgement;
 pub mod lines;
 pub mod load_reasons;
 pub mod members;
+pub mod moment_doubts;
 pub mod notes;
 pub mod number;
 pub mod opening;
@@ -64,6 +65,10 @@ pub trait Report: Sized {
     fn blank(&mut self, _: &[u8], _: &Columns) {}
     /// For each row.
     fn row(&mut self, row: &SheetRow) -> Outcome;
+    /// What a person should know of the rows beside the answers.
+    fn notes(&self) -> Vec<String> {
+        Vec::new()
+    }
     /// All that was made.
     fn finish(self) -> Vec<u8>;
 }
@@ -91,6 +96,8 @@ pub fn go_through(
             progress.rows(tally.rows);
             last = Some(line);
         }
+        progress.clear();
+        notes::show(&report.notes());
         notes::show(
             last.and_then(|line| cut_off(&line, text, columns))
                 .as_slice(),

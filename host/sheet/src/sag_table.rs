@@ -5,7 +5,7 @@ use crate::row::SheetRow;
 use crate::table::{typed_as, whole_number, Layout, TableColumn, NONE};
 use crate::table_lines::Side;
 use crate::verdict_table::{self, pass_or_fail, percent, REFUSED};
-use crate::{floor_table, load_reasons};
+use crate::{floor_table, load_reasons, moment_doubts};
 
 /// A greater moment is outside its range.
 const GREATEST_SHOWN: u64 = 10_000_000_000;
@@ -21,6 +21,7 @@ pub fn layout() -> Layout<Judgement> {
     ];
     Layout {
         last,
+        doubt: moment_doubts::of_row,
         ..verdict_table::layout(
             floor_table::OF_A_BEAM.into_iter().chain(verdicts).collect(),
             vec![

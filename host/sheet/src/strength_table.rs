@@ -30,6 +30,7 @@ pub fn layout(used_by: &'static str) -> Layout<UsedStrengths> {
         ],
         last_heading: "Why refused",
         last: |_, _| String::new(),
+        doubt: |_, _| None,
         remarks: vec![SUM, used_by],
     }
 }

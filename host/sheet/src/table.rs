@@ -1,5 +1,6 @@
 //! A table that a person reads: for each row a line, with what is found of it or why it is refused.
 use crate::judgement::Refused;
+use crate::moment_doubts::{Doubt, MomentDoubts};
 use crate::number::Typed;
 use crate::opening::Opening;
 use crate::row::{Outcome, SheetRow};
@@ -26,6 +27,8 @@ pub struct Layout<Found> {
     pub last_heading: &'static str,
     /// What the last column says of a row; of a refused one it says the reason.
     pub last: fn(&SheetRow, &Found) -> String,
+    /// What is doubtful about the moment that a row asks with.
+    pub doubt: fn(&SheetRow, &Result<Found, Refused>) -> Option<Doubt>,
     /// What a reader should know, in lines below the others.
     pub remarks: Vec<&'static str>,
 }
@@ -58,6 +61,7 @@ pub struct Table<Found: 'static> {
     /// The one in its place where a row asks for what is on request.
     on_request: Option<&'static Layout<Found>>,
     lines: TableLines,
+    doubts: MomentDoubts,
 }
 
 impl<Found> Table<Found> {
@@ -71,6 +75,7 @@ impl<Found> Table<Found> {
             layout,
             on_request: None,
             lines: TableLines::below(heading(schema, layout), slots, NAME),
+            doubts: MomentDoubts::default(),
         }
     }
 
@@ -92,7 +97,12 @@ impl<Found> Report for Table<Found> {
     fn row(&mut self, row: &SheetRow) -> Outcome {
         let found = (self.layout.find)(row);
         self.lines.add(line(row, &found, self.layout));
+        self.doubts.add(row, (self.layout.doubt)(row, &found));
         (self.layout.outcome)(&found)
+    }
+
+    fn notes(&self) -> Vec<String> {
+        self.doubts.notes()
     }
 
     fn finish(self) -> Vec<u8> {

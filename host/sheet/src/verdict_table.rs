@@ -16,6 +16,7 @@ pub fn layout(
         columns,
         last_heading: "Governing check, clause of SP 64",
         last: check,
+        doubt: |_, _| None,
         remarks,
     }
 }

@@ -13,6 +13,7 @@ mod both_verdicts;
 mod example;
 mod headings;
 mod help;
+mod moment_doubts;
 mod order;
 mod refusals;
 mod table;
