@@ -31,6 +31,8 @@ pub struct CellNames {
     pub beside_symbol: &'static [&'static str],
     /// Whether they have a symbol with a small n, which is not the N of forces.
     pub has_small_n: bool,
+    /// Whether it is a ratio: a heading with pieces for a unit is of a count.
+    pub is_ratio: bool,
 }
 
 const fn symbol(
@@ -43,12 +45,20 @@ const fn symbol(
         words,
         beside_symbol,
         has_small_n: false,
+        is_ratio: false,
     }
 }
 
 const fn with_small_n(names: CellNames) -> CellNames {
     CellNames {
         has_small_n: true,
+        ..names
+    }
+}
+
+const fn ratio(names: CellNames) -> CellNames {
+    CellNames {
+        is_ratio: true,
         ..names
     }
 }
@@ -116,9 +126,9 @@ pub const SAG: [CellNames; 2] = [
                                 "изгибающий момент от нормативных нагрузок", "Мн", "момент Мн",
                                 "нормативный момент Мн"],
                         &["moment", "bending moment", "момент", "изгибающий момент"])),
-    with_small_n(words(&["n", "span/n", "L/n", "limit n", "limit of span/n", "limit span/n", "limit L/n",
-                         "sag limit n", "deflection limit n", "пролёт/n", "предел n", "предел прогиба n",
-                         "предел прогиба l/n", "предельный прогиб n", "предельный прогиб l/n"])),
+    ratio(with_small_n(words(&["n", "span/n", "L/n", "limit n", "limit of span/n", "limit span/n", "limit L/n",
+                               "sag limit n", "deflection limit n", "пролёт/n", "предел n", "предел прогиба n",
+                               "предел прогиба l/n", "предельный прогиб n", "предельный прогиб l/n"]))),
 ];
 
 impl CellNames {

@@ -90,6 +90,9 @@ fn named(schema: &Schema, typed: &[String], name: &[String], unit: &[String]) ->
     if cell.names.has_small_n && speaks_of_force(typed) {
         return None;
     }
+    if cell.names.is_ratio && units::are_pieces(unit) {
+        return None;
+    }
     if unit.is_empty() || units::is(cell.words.unit, unit) {
         return Some(Meaning::Known(heading));
     }

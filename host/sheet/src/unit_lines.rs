@@ -31,11 +31,13 @@ pub fn below_header(line: &Line, columns: &Columns) -> Option<String> {
     }
     let units: Vec<&UnitField> = fields
         .iter()
-        .filter(|field| units::is_any(&field.words) && !units::is("", &field.words))
+        .filter(|field| units::is_any(&field.words) && !field.says_no_unit())
         .collect();
     let is_without_numbers = !has_number(line.text, columns.separator);
     if is_without_numbers || units.len() >= UNITS_OF_A_LINE {
-        let foreign = |field: &&UnitField| !units::is(field.cell.words.unit, &field.words);
+        let foreign = |field: &&UnitField| {
+            !units::is(field.cell.words.unit, &field.words) || field.counts_a_ratio()
+        };
         if let Some(field) = units.into_iter().find(foreign) {
             return Some(field.problem(line));
         }
@@ -146,19 +148,31 @@ impl UnitField {
         number.is_some_and(|number| SECTION.contains(&number))
     }
 
+    fn says_no_unit(&self) -> bool {
+        units::is("", &self.words) && !self.counts_a_ratio()
+    }
+
+    /// Whether the text has pieces for a unit, and the cell is no count.
+    fn counts_a_ratio(&self) -> bool {
+        self.cell.names.is_ratio && units::are_pieces(&self.words)
+    }
+
     /// Whether the heading ends in the unit of its cell.
     fn states_its_unit(&self) -> bool {
         units::end_in(self.cell.words.unit, &self.words)
     }
 
-    /// Whether the text is, or ends after a comma or in brackets with, a unit that no cell has, above a cell that has one.
+    /// Whether the text is, or ends after a comma or in brackets with, a unit that no cell has, above a cell that has one,
+    /// or pieces above one that is no count.
     ///
     /// A symbol, as m in "b, h, m", is no unit.
     fn ends_in_foreign_unit(&self, columns: &Columns) -> bool {
         let ending = self.text.rsplit([',', '(', '[']).next().unwrap_or("");
         let is_symbol = matches!(columns.meaning(ending), Meaning::Known(_));
-        let is_foreign = units::is_foreign(&headings::words_of(ending), columns);
-        is_foreign && !is_symbol && !self.cell.words.unit.is_empty()
+        let ending = headings::words_of(ending);
+        let is_foreign = units::is_foreign(&ending, columns) && !self.cell.words.unit.is_empty();
+        let is_count = self.cell.names.is_ratio && units::are_pieces(&ending);
+        (is_foreign || is_count) && !is_symbol
     }
 
     fn problem(&self, line: &Line) -> String {

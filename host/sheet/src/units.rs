@@ -5,7 +5,7 @@ use std::sync::LazyLock;
 
 /// How the units of `words` are spelt; Cyrillic spellings follow by their letters.
 const SPELLINGS: &[(&str, &[&str])] = &[
-    ("", &["–", "pcs", "шт"]),
+    ("", &["–", PIECES[0], PIECES[1]]),
     ("%", &["percent", "проц"]),
     (
         "thousandths",
@@ -26,6 +26,9 @@ const SPELLINGS: &[(&str, &[&str])] = &[
         ],
     ),
 ];
+
+/// What stands for no unit where things are counted.
+const PIECES: [&str; 2] = ["pcs", "шт"];
 
 /// Units of forces and moments that no cell has: what is typed in them would be far too small.
 #[rustfmt::skip]
@@ -90,6 +93,12 @@ pub enum Unit {
 /// Whether these words are a spelling of the unit.
 pub fn is(unit: &str, given: &[String]) -> bool {
     matches!(read(given), Some(Unit::Own(own)) if own == unit)
+}
+
+/// Whether these words say that things are counted.
+pub fn are_pieces(given: &[String]) -> bool {
+    let given = key(without_preposition(given));
+    PIECES.iter().any(|pieces| key_of(pieces) == given)
 }
 
 /// Whether these words are a unit at all.

@@ -10,6 +10,7 @@ use lvl_addin::sag::{HostSag, SagVerdict};
 mod addin;
 mod answer_columns;
 mod both_verdicts;
+mod counts;
 mod example;
 mod headings;
 mod help;
