@@ -310,7 +310,8 @@ bending, shear or sag, and before them both verdicts, strength with the number o
 its check; --csv also has these figures. Where sag is refused, a beam that fails in
 strength fails, and any other counts as refused. A sheet in which no beam asks for
 sag has no columns of it; in one where some do, the others have a dash, in --csv
-nothing. Where the order decides, Mn and n are two columns after height h.
+nothing. Where the order decides, Mn and n are two columns after height h; a lone
+number there is Mn, but not where a row has a remark in its place.
 
 Loads are in N/m alone: a heading or a line that speaks of kN/m or кгс/м stops the
 sheet, and so does a title that speaks of loads on an area, or of cm, above headings

@@ -1,5 +1,5 @@
 //! Whether some row of a sheet asks for what is on request, which has to be known before the first is answered.
-use crate::columns::{typed, Basis, Columns};
+use crate::columns::{is_number, typed, Basis, Columns};
 use crate::fields;
 use crate::lines::{Line, Lines, Shape};
 use crate::number::Typed;
@@ -15,16 +15,47 @@ pub fn settled(mut columns: Columns, rows: Lines) -> Columns {
 
 fn is_in(mut rows: Lines, columns: &Columns) -> bool {
     let places = columns.on_request();
-    let Some(last) = places.last() else {
+    let (Some(first), Some(last)) = (places.first(), places.last()) else {
         return false;
     };
+    let mut further = Further::default();
     while let Some(line) = rows.next_line(Shape::In(columns)) {
         let fills = asks(&line, columns, &places);
         if fills && (columns.basis == Basis::Headings || ends_in(&line, columns, *last)) {
             return true;
         }
+        if columns.basis != Basis::Headings {
+            further.add(&line, columns, *first);
+        }
     }
-    false
+    further.are_numbers()
+}
+
+/// What lines hold that end in the first of these columns, or past the last: where the order decides, a lone number may be the
+/// first cell of a row that asks, but not where others have a remark in its place.
+#[derive(Default)]
+struct Further {
+    numbers: bool,
+    others: bool,
+}
+
+impl Further {
+    fn add(&mut self, line: &Line, columns: &Columns, first: usize) {
+        let (fields, mut rest) = columns.split(line.text);
+        let is_lone = fields.len() == first + 1 && !fields::is_empty(&fields[first]);
+        if columns.numbers_from(0, line.text) == 0 {
+            return;
+        }
+        if is_lone && is_number(&fields[first], columns.separator) {
+            self.numbers = true;
+        } else if is_lone || rest.any(|field| !fields::is_empty(&field)) {
+            self.others = true;
+        }
+    }
+
+    fn are_numbers(&self) -> bool {
+        self.numbers && !self.others
+    }
 }
 
 /// Whether a line fills one of these columns. A line without numbers is of units, or a header.

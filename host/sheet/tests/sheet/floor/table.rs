@@ -122,8 +122,8 @@ fn without_a_header_the_order_decides() {
     assert!(run.line("B1 ").ends_with(JUDGED), "{}", run.out);
     assert_eq!(run.err, note);
     assert!(table(&BEAM[3..]).line("line 1 ").ends_with(JUDGED));
-    let further = table(format!("{BEAM},5\n"));
-    let reason = "column 10: \"5\" stands past the last cell, 7 height h";
+    let further = table(format!("{BEAM},as B2\n"));
+    let reason = "column 10: \"as B2\" stands past the last cell, 7 height h";
     assert!(further.line("B1 ").ends_with(reason), "{}", further.out);
 }
 

@@ -66,11 +66,45 @@ fn any_beam_may_ask() {
     assert!(further.line("B1 ").ends_with(reason), "{}", further.out);
 }
 
-/// One column after the cells, or three, were an office's own before there was sag, and still are.
+/// A moment without a further field is one without a limit, as with it.
+#[test]
+fn a_lone_number_asks() {
+    for options in [&[][..], &["--by-position"], &["--csv"], &["--strengths"]] {
+        for others in ["", BEAM, &beam(1_800_000, "")] {
+            for lone in ["1800000", "1 800 000", "1.5", "1800.000"] {
+                let content = |end: &str| format!("{BEAM},{lone}{end}\n{others}\n{BEAM},7\n");
+                let with_field = floor(content(","), options);
+                let run = floor(content(""), options);
+                assert_eq!((run.out, run.err), (with_field.out, with_field.err));
+            }
+        }
+    }
+    let run = floor(format!("{BEAM},1800000\n"), &[]);
+    let end = "1.80    –  refused       refused        –  refusal 10, limit n: blank (wanted: 100 to 500)";
+    assert!(run.line("B1 ").ends_with(end), "{}", run.out);
+    assert!(run.out.contains("  pass    89.3 (7)  "), "{}", run.out);
+}
+
+/// Remarks of an office are no moments, and neither are numbers among them.
+#[test]
+fn a_lone_number_among_remarks_does_not_ask() {
+    for options in [&[][..], &["--by-position"], &["--strengths"]] {
+        for other in [",see drawing 5", ",5,6,7", ",,,5", ",as B1"] {
+            for lines in [[",1800000", other], [other, ",1800000"]] {
+                let rows = lines.map(|end| format!("{BEAM}{end}\n"));
+                let run = floor(rows.concat(), options);
+                let reason = " stands past the last cell, 7 height h\n";
+                assert_eq!(run.out.matches(reason).count(), 2, "{}", run.out);
+            }
+        }
+    }
+}
+
+/// Three columns after the cells were an office's own before there was sag, and still are, and so is one of remarks.
 #[test]
 fn other_columns_after_the_cells_are_refused_as_before() {
     for options in [&[][..], &["--by-position"]] {
-        for end in [",5", ",,,5", ",5,6,7", ",,6,7"] {
+        for end in [",as B1", ",,,5", ",5,6,7", ",,6,7"] {
             let run = floor(format!("{BEAM}{end}\n"), options);
             let reason = " stands past the last cell, 7 height h";
             assert!(run.line("B1 ").ends_with(reason), "{}", run.out);
