@@ -16,7 +16,7 @@ const MOST_PROBLEMS: usize = 30;
 pub fn columns(header: &[u8], separator: u8, options: &ColumnOptions) -> Result<Columns, String> {
     let ColumnOptions { schema, skip, .. } = options;
     let texts = texts(header, separator);
-    let skipped: Vec<String> = skip.iter().map(|heading| headings::key(heading)).collect();
+    let skipped = passed_over(skip, &texts, schema);
     let columns: Vec<Result<Column, String>> = texts
         .iter()
         .map(|text| column(text, &skipped, schema))
@@ -25,7 +25,7 @@ pub fn columns(header: &[u8], separator: u8, options: &ColumnOptions) -> Result<
         (0..columns.len()).filter_map(|place| problem(place, &columns, &texts, schema));
     let of_skip = skip
         .iter()
-        .filter_map(|heading| problem_of_skip(heading, &texts, schema));
+        .filter_map(|heading| problem_of_skip(heading, &texts, &skipped));
     let problems: Vec<String> = of_columns.chain(of_skip).collect();
     if !problems.is_empty() {
         let advice = advice(header, separator, schema);
@@ -35,10 +35,29 @@ pub fn columns(header: &[u8], separator: u8, options: &ColumnOptions) -> Result<
     Ok(Columns::new(schema, separator, Basis::Headings, columns))
 }
 
+/// The keys of the headings that are passed over. Of the answers those on request may be, as an office's own columns, where the
+/// sheet has no others of them.
+fn passed_over(skip: &[String], texts: &[String], schema: &Schema) -> Vec<String> {
+    let keys: Vec<String> = skip.iter().map(|heading| headings::key(heading)).collect();
+    let answer = |text: &str| match headings::read_in(schema, text) {
+        Meaning::Known(Heading::Answer(number)) => Some(number),
+        _ => None,
+    };
+    let is_on_request = |number: usize| number >= schema.answers_without_request();
+    let is_other = |text: &String| {
+        answer(text).is_some_and(is_on_request) && !keys.contains(&headings::key(text))
+    };
+    let has_others = texts.iter().any(is_other);
+    let may_be =
+        |heading: &str| answer(heading).map_or(true, |number| is_on_request(number) && !has_others);
+    let headings = skip.iter().zip(&keys);
+    let passed_over = headings.filter(|(heading, _)| may_be(heading));
+    passed_over.map(|(_, key)| key.clone()).collect()
+}
+
 fn column(text: &str, skipped: &[String], schema: &Schema) -> Result<Column, String> {
     match headings::read_in(schema, text) {
         Meaning::Empty => Ok(Column::Unheaded),
-        Meaning::Known(answer @ Heading::Answer(_)) => Ok(Column::Holds(answer)),
         _ if skipped.contains(&headings::key(text)) => Ok(Column::Skipped),
         Meaning::Known(heading) => Ok(Column::Holds(heading)),
         Meaning::OtherUnit(cell) => Err(schema.cell(cell).unit_wanted()),
@@ -80,10 +99,9 @@ fn has_answers(number: usize, columns: &[Result<Column, String>], schema: &Schem
     answers.all(|answer| columns.contains(&Ok(Column::Holds(answer))))
 }
 
-fn problem_of_skip(heading: &str, texts: &[String], schema: &Schema) -> Option<String> {
+fn problem_of_skip(heading: &str, texts: &[String], skipped: &[String]) -> Option<String> {
     let key = headings::key(heading);
-    let meaning = headings::read_in(schema, heading);
-    let problem = if matches!(meaning, Meaning::Known(Heading::Answer(_))) {
+    let problem = if !skipped.contains(&key) {
         "an answer cannot be passed over: rename the column"
     } else if !texts.iter().any(|text| headings::key(text) == key) {
         "no column is headed so"

@@ -150,6 +150,52 @@ fn one_of_their_headings_alone_stops_the_sheet() {
     assert!(!message.contains("\"verdict\""), "{message}");
 }
 
+/// An office's own columns of these names are passed over where it says so, in a sheet without answers on sag.
+#[test]
+fn columns_of_the_office_with_their_headings_are_passed_over() {
+    let plain = floor(format!("{HEADER}\n{BEAM}\n"), &[]);
+    let asking = sheet(&[beam(1_800_000, 200)]);
+    for heading in BESIDE.split(',') {
+        let skip = ["--skip", &heading.to_uppercase()];
+        let content = format!("{HEADER},{heading}\n{BEAM},ours\n");
+        let run = floor(&content, &skip);
+        assert_eq!((run.code, &run.out), (plain.code, &plain.out), "{heading}");
+        let own = format!("{BEAM},ours,pass,7,892337,,,2000,В,4410000,4200\n");
+        let out = read_again(&content, &skip);
+        assert!(out.ends_with(&own), "{out}");
+        let with_sag = asking.replace(",n\n", &format!(",n,{heading}\n"));
+        let with_sag = floor(with_sag.trim_end().to_owned() + ",ours\n", &skip);
+        assert_eq!(with_sag.out, floor(&asking, &[]).out, "{heading}");
+        let absent = stopped(&asking, &skip);
+        assert!(absent.contains(": no column is headed so\n"), "{absent}");
+    }
+    let two = format!("{HEADER},sag verdict,strength check\n{BEAM},ours,too\n");
+    let skip = ["--skip", "sag verdict", "--skip", "strength check"];
+    assert_eq!(floor(&two, &skip).out, plain.out);
+    let one_left = stopped(&two, &skip[..2]);
+    let problem = "the heading of an answer, without those of the others: rename the column";
+    assert!(one_left.contains(problem), "{one_left}");
+    let cannot = "--skip \"sag verdict\": an answer cannot be passed over: rename the column";
+    assert!(one_left.contains(cannot), "{one_left}");
+}
+
+/// Beside answers on sag of an earlier run none of them is passed over, and those on strength are written beside every beam.
+#[test]
+fn answers_are_not_passed_over() {
+    let with_sag = written(&sheet(&[beam(1_800_000, 200)]), &[]);
+    let own = format!("{HEADER},verdict\n{BEAM},ours\n");
+    for (content, heading) in [
+        (&with_sag, "sag verdict"),
+        (&with_sag, "strength check"),
+        (&with_sag, "verdict"),
+        (&own, "verdict"),
+    ] {
+        let message = stopped(content, &["--skip", heading]);
+        let cannot = format!("\"{heading}\": an answer cannot be passed over: rename the column");
+        assert!(message.contains(&cannot), "{message}");
+    }
+}
+
 /// A typed text in a reason is quoted where the sheet's separator asks for it.
 #[test]
 fn they_go_out_as_the_sheet_came_in() {

@@ -15,7 +15,7 @@ fn help_explains_sag() {
         "is refusal 10, of the sag alone",
         "A beam fails if either fails.",
         "Where sag is refused, a beam that fails in strength fails, and any other counts as refused.",
-        "Where the order decides, Mn and n are two columns after height h.",
+        "Where the order decides, Mn and n are two columns after height h; a lone number there is Mn, ",
         "– unfactored moment Mn N·mm 1 to 10000000000 ",
         "– limit n 100 to 500 ",
     ] {
