@@ -12,6 +12,8 @@ const QUOTED: usize = 40;
 /// So many problems are listed, and the others counted.
 const MOST_PROBLEMS: usize = 30;
 
+const NOT_KNOWN: &str = "not a known heading";
+
 /// The columns below a header; an error that lists everything wrong with its headings.
 pub fn columns(header: &[u8], separator: u8, options: &ColumnOptions) -> Result<Columns, String> {
     let ColumnOptions { schema, skip, .. } = options;
@@ -61,7 +63,19 @@ fn column(text: &str, skipped: &[String], schema: &Schema) -> Result<Column, Str
         _ if skipped.contains(&headings::key(text)) => Ok(Column::Skipped),
         Meaning::Known(heading) => Ok(Column::Holds(heading)),
         Meaning::OtherUnit(cell) => Err(schema.cell(cell).unit_wanted()),
-        Meaning::Unknown => Err("not a known heading".to_owned()),
+        Meaning::Unknown => Err(not_known(text, schema)),
+    }
+}
+
+/// For a heading that is not known; spreadsheets make a capital letter of the n of a limit.
+fn not_known(text: &str, schema: &Schema) -> String {
+    let is_ratio = match headings::read_in(schema, &text.to_lowercase()) {
+        Meaning::Known(Heading::Cell(place)) => schema.cell(place).names.is_ratio,
+        _ => false,
+    };
+    match is_ratio {
+        true => format!("{NOT_KNOWN}: n of the limit is typed small, or as \"L/n\" or \"span/n\""),
+        false => NOT_KNOWN.to_owned(),
     }
 }
 

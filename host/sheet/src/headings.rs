@@ -2,7 +2,8 @@
 //!
 //! A heading is a name, or a name and the unit of what it names. Case, spaces and brackets do not count, and letters
 //! that look alike in the Cyrillic and the Latin alphabet are one: nobody sees in which of them М, а or кс was typed.
-//! Every other sign counts: N+, N* or 2b are not N or b. In one place case counts too: n is no N where N would be a force.
+//! Every other sign counts: N+, N* or 2b are not N or b. In one place case and alphabet count too: n is no N where N would be a
+//! force, and no h that stands for a Cyrillic н.
 use crate::schema::Schema;
 use crate::text::is_unseen;
 use crate::{members, units};
@@ -87,7 +88,7 @@ fn named(schema: &Schema, typed: &[String], name: &[String], unit: &[String]) ->
         return unit.is_empty().then_some(Meaning::Known(heading));
     };
     let cell = schema.cell(place);
-    if cell.names.has_small_n && speaks_of_force(typed) {
+    if cell.names.has_small_n && (speaks_of_force(typed) || ends_in_h(typed)) {
         return None;
     }
     if cell.names.is_ratio && units::are_pieces(unit) {
@@ -108,6 +109,12 @@ fn speaks_of_force(name: &[String]) -> bool {
         "MN" | "MН" | "МN" | "МН" => place > 0,
         _ => false,
     })
+}
+
+/// Whether a name, as it was typed, ends in a Latin h: "across h", where a Cyrillic н stands for the n.
+fn ends_in_h(name: &[String]) -> bool {
+    let last = name.last();
+    last.is_some_and(|word| word.ends_with(['h', 'H']))
 }
 
 /// A heading's words in small letters, without what only parts them, and without the apostrophe that keeps a formula text.

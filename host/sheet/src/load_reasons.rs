@@ -39,9 +39,23 @@ fn of_loads(row: &SheetRow) -> Option<String> {
 
 /// What explains refusal 10, the first in the order of the columns.
 pub fn of_sag(row: &SheetRow) -> Option<String> {
-    not_in(row, SPAN, &SPANS)
+    let blamed = not_in(row, SPAN, &SPANS)
         .or_else(|| not_in(row, UNFACTORED_MOMENT, &UNFACTORED_MOMENTS))
-        .or_else(|| not_in(row, LIMIT, &LIMITS))
+        .or_else(|| not_in(row, LIMIT, &LIMITS))?;
+    let has_dash = [UNFACTORED_MOMENT, LIMIT]
+        .into_iter()
+        .any(|place| is_dash(&row.text(place)));
+    match has_dash {
+        true => Some(format!("{blamed}; leave both blank where no sag is wanted")),
+        false => Some(blamed),
+    }
+}
+
+/// Whether a cell's text is what people type for nothing, with or without the apostrophe that keeps it text.
+fn is_dash(text: &str) -> bool {
+    let text = text.trim();
+    let text = text.strip_prefix('\'').unwrap_or(text);
+    !text.is_empty() && text.chars().all(|letter| "-–—−".contains(letter))
 }
 
 /// What is wrong with a cell that has to be a whole number within a range.

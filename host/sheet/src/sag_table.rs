@@ -1,6 +1,7 @@
 //! The table of floor beams in a sheet in which one asks for its sag: strength and sag, then the verdict on both.
 use crate::floor_beams::{sag, strength, LIMIT, UNFACTORED_MOMENT};
 use crate::judgement::Judgement;
+use crate::number::Typed;
 use crate::row::SheetRow;
 use crate::table::{typed_as, whole_number, Layout, TableColumn, NONE};
 use crate::table_lines::Side;
@@ -80,12 +81,22 @@ const SAGS: TableColumn<Judgement> = TableColumn {
     heading: "Sag, %",
     width: 12,
     side: Side::Left,
-    text: |_, judged| match sag(judged) {
+    text: |row, judged| match sag(judged) {
         Some(Ok(sag)) => with_figure(sag.passes, sag.utilisation),
         Some(Err(_)) => REFUSED.to_owned(),
+        None if is_asked_for(row) => NOT_JUDGED.to_owned(),
         None => NONE.to_owned(),
     },
 };
+
+/// Stands for a sag that is asked for of a beam that is refused.
+const NOT_JUDGED: &str = "not judged";
+
+fn is_asked_for(row: &SheetRow) -> bool {
+    [UNFACTORED_MOMENT, LIMIT]
+        .into_iter()
+        .any(|place| row.cell(place) != Typed::Blank)
+}
 
 /// A verdict and its utilisation, each at its place.
 fn with_figure(passes: bool, utilisation: u32) -> String {

@@ -54,14 +54,58 @@ fn what_is_not_known() {
     for text in UNKNOWN {
         assert_eq!(read(text), Meaning::Unknown, "{text}");
     }
-    let message = stopped(&format!("{HEADER},Mn,N\n{},\n", beam(1_800_000, 200)), &[]);
-    let problem = "column 11, \"N\": not a known heading\n";
+    let message = stopped(&format!("{HEADER},Mn,M\n{},\n", beam(1_800_000, 200)), &[]);
+    let problem = "column 11, \"M\": not a known heading\n";
     assert!(message.contains(problem), "{message}");
     assert!(
         message.contains("\n       –  Mn, unfactored moment, "),
         "{message}"
     );
     assert!(message.contains("\n       –  n, span/n, "), "{message}");
+}
+
+/// Spreadsheets make a capital letter of it, so a message says what to do.
+#[test]
+fn a_capital_n_is_said_to_be_none() {
+    let message = |heading: &str| {
+        let content = format!("{HEADER},Mn,\"{heading}\"\n{},\n", beam(1_800_000, 200));
+        stopped(&content, &[])
+    };
+    let advice = "n of the limit is typed small, or as \"L/n\" or \"span/n\"";
+    for heading in ["N", "N, –", "N (-)"] {
+        let problem = format!(
+            "column 11, \"{}\": not a known heading: {advice}\n",
+            heading
+        );
+        assert!(message(heading).contains(&problem), "{}", message(heading));
+    }
+    for heading in ["N, kN", "N, шт", "N limit", "M"] {
+        assert!(!message(heading).contains(advice), "{heading}");
+    }
+    // A member's N is a force, and no sheet of members has a limit.
+    let members = crate::common::table("member;kind;N, kN\nA;2;20\n");
+    assert!(!members.err.contains(advice), "{}", members.err);
+}
+
+/// An h in Latin letters is the height, as in Lh; in Cyrillic ones it is the n that it looks like as a capital.
+#[test]
+fn across_h_is_no_n() {
+    for text in [
+        "Mh",
+        "M_h",
+        "M h",
+        "mh",
+        "Mh, N·mm",
+        "MH",
+        "Мh",
+        "момент Mh",
+        "M h (N·mm)",
+    ] {
+        assert_eq!(read(text), Meaning::Unknown, "{text}");
+    }
+    for text in ["Мн", "Mн", "М н", "М_н", "МН", "момент Мн", "Мн, Н·мм"] {
+        assert_eq!(read(text), Meaning::Known(Heading::Cell(MOMENT)), "{text}");
+    }
 }
 
 /// Behind a name of the moment a capital N is a unit, and one that no moment has.

@@ -12,7 +12,7 @@ use lvl_sheet::{floor_beams, load_reasons, words};
 const FAILS: &str = "B1,1601,400,4200,1,12,1000,45,160";
 
 #[rustfmt::skip]
-const REASONS: [(&str, &str, &str); 15] = [
+const REASONS: [(&str, &str, &str); 20] = [
     ("", "200", "unfactored moment Mn: blank (wanted: 1 to 10000000000 N·mm)"),
     ("1800000", "", "limit n: blank (wanted: 100 to 500)"),
     ("by statics", "200", "unfactored moment Mn: \"by statics\" is not a number (wanted: 1 to 10000000000 N·mm)"),
@@ -27,6 +27,11 @@ const REASONS: [(&str, &str, &str); 15] = [
     ("1800000", "200.5", "limit n: 200.5 is not a whole number (wanted: 100 to 500)"),
     ("1800000", "99", "limit n: 99 is outside 100 to 500"),
     ("1800000", "501", "limit n: 501 is outside 100 to 500"),
+    ("–", "–", "unfactored moment Mn: \"–\" is not a number (wanted: 1 to 10000000000 N·mm); leave both blank where no sag is wanted"),
+    ("—", "", "unfactored moment Mn: \"—\" is not a number (wanted: 1 to 10000000000 N·mm); leave both blank where no sag is wanted"),
+    ("", "—", "unfactored moment Mn: blank (wanted: 1 to 10000000000 N·mm); leave both blank where no sag is wanted"),
+    ("1800000", "––", "limit n: \"––\" is not a number (wanted: 100 to 500); leave both blank where no sag is wanted"),
+    ("1800000", "−200", "limit n: \"−200\" is not a number (wanted: 100 to 500)"),
     // Of two that are to blame the first is named.
     ("0", "99", "unfactored moment Mn: 0 is outside 1 to 10000000000 N·mm"),
 ];
@@ -45,6 +50,16 @@ fn a_beam_that_passes_in_strength_is_refused() {
         assert!(line.ends_with(&parts[1]), "{line} instead of {reason}");
         let tally = "1 row: 0 passed, 0 failed, 1 refused";
         assert_eq!((run.code, run.summary()), (1, tally));
+    }
+}
+
+/// A dash for nothing is a hyphen too, before which `--csv` puts an apostrophe.
+#[test]
+fn a_hyphen_is_a_dash() {
+    for dash in ["-", "'-", "--", " - "] {
+        let run = table(&[beam(dash, dash)]);
+        let advice = "; leave both blank where no sag is wanted";
+        assert!(run.line("B1 ").ends_with(advice), "{}", run.out);
     }
 }
 
@@ -111,9 +126,13 @@ fn a_beam_that_is_refused_shows_no_sag() {
         for (moment, n) in [("1800000", "200"), ("x", "200"), ("1800000", "")] {
             let line = asking(typed, moment, n);
             let run = table(std::slice::from_ref(&line));
-            let end = format!("  –             refused        –  {reason}");
+            let end = format!("  not judged    refused        –  {reason}");
             assert!(run.line("B1 ").ends_with(&end), "{}", run.out);
             assert!(!run.out.contains("refusal 10"), "{}", run.out);
+            let asks_not = asking(typed, "", "").replace("B1", "B2");
+            let asks_not = table(&[line.clone(), asks_not]);
+            let end = format!("  –             refused        –  {reason}");
+            assert!(asks_not.line("B2 ").ends_with(&end), "{}", asks_not.out);
             let out = csv(std::slice::from_ref(&line)).out;
             let written = out.lines().nth(1).unwrap();
             let from = |heading: &str| answer(&out, written, heading);

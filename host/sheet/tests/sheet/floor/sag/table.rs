@@ -34,7 +34,10 @@ fn every_text_stands_below_its_heading() {
     let rows = &lines[2..40];
     for (column, words) in [
         ("Strength, %", &["pass ", "FAIL ", "–    "][..]),
-        ("Sag, %", &["pass ", "FAIL ", "refused ", "–    "]),
+        (
+            "Sag, %",
+            &["pass ", "FAIL ", "refused ", "not judged ", "–    "],
+        ),
         ("Verdict", &["pass ", "FAIL ", "refused "]),
         (
             "Governing",
