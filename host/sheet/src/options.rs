@@ -296,29 +296,32 @@ shows span, section, q, the regime by its letter and code, and M and Q in kN·m 
 kN, rounded up to two decimals; --csv has M and Q whole, in N·mm and N. --strengths
 shows the regime that was found.
 
-Sag is checked beside strength where Mn or n is filled: it may be L / n on a span L.
-Mn is the moment of the same loads without their safety factors, so it is below M;
-it has to be in N·mm. n is a plain number, such as 150, 200 or 250, and a small
-letter in its heading, since N is a force. With the grade's modulus of elasticity in
-MPa, and e and w in hundredths for regime and moisture, E = modulus × e × w / 10000
-and Mf = 4 × E × b × h³ / (5 × L × n), both rounded down; the shear factor is
-1000000 + 19200000 × h² / L², its second part rounded up, and the utilisation is
-Mn × shear factor / Mf, rounded up. Mn or n that is blank beside the other, no whole
-number or outside its range is refusal 10, of the sag alone.
+Sag is checked beside strength where Mn or n is filled: leave both blank where no sag
+is wanted. It may be L / n on a span L. Mn is the greatest moment of the beam's
+unfactored loads, the same loads as typed, with their safety factors at 1. It has to
+be in N·mm, and a note says where it is above M or below a tenth of it. n is a plain
+number, such as 150, 200 or 250, and a small letter in its heading, since N is a
+force. With the grade's modulus of elasticity in MPa, and e and w in hundredths for
+regime and moisture, E = modulus × e × w / 10000 and Mf = 4 × E × b × h³ /
+(5 × L × n), both rounded down; the shear factor is 1000000 + 19200000 × h² / L²,
+its second part rounded up, and the utilisation is Mn × shear factor / Mf, rounded
+up. Mn or n that is blank beside the other, no whole number or outside its range is
+refusal 10, of the sag alone.
 A beam fails if either fails. The table shows the greater utilisation and its check,
 bending, shear or sag, and before them both verdicts, strength with the number of
 its check; --csv also has these figures. Where sag is refused, a beam that fails in
 strength fails, and any other counts as refused. A sheet in which no beam asks for
 sag has no columns of it; in one where some do, the others have a dash, in --csv
-nothing. Where the order decides, Mn and n are two columns after height h; a lone
-number there is Mn, but not where a row has a remark in its place.
+nothing. A beam that asks and is refused itself has \"not judged\" there. Where the
+order decides, Mn and n are two columns after height h; a lone number there is Mn,
+but not where a row has a remark in its place.
 
-Loads are in N/m alone: a heading or a line that speaks of kN/m or кгс/м stops the
-sheet, and so does a title that speaks of loads on an area, or of cm, above headings
-without units. A first line of words alone that is not known as a header stops it
-too. Where the order decides, the first column holds the beams' names, unless it
-begins with a number or its heading has \"load\" or \"нагрузк\" in it. Headings
-that are known with --floor:
+Loads are in N/m and moments in N·mm alone: a heading or a line that speaks of kN/m,
+кгс/м or кг·м stops the sheet, and so does a title that speaks of loads on an area,
+or of cm, above headings without units. A first line of words alone that is not known
+as a header stops it too. Where the order decides, the first column holds the beams'
+names, unless it begins with a number or its heading has \"load\" or \"нагрузк\" in
+it. Headings that are known with --floor:
 
 {floor headings}
 

@@ -26,7 +26,8 @@ pub fn layout() -> Layout<Judgement> {
         ..verdict_table::layout(
             floor_table::OF_A_BEAM.into_iter().chain(verdicts).collect(),
             vec![
-                "Strength is for design loads, by bending (7) or shear (8). Sag is for Mn, the moment of unfactored loads, with the limit span / n.",
+                "Strength is for design loads, by bending (7) or shear (8). Sag is for Mn, with the limit span / n.",
+                "Mn is the greatest moment of the beam's unfactored loads, the same loads as typed, with their safety factors at 1.",
                 "Where neither Mn nor n is filled sag is not checked. Lateral stability is not checked.",
             ],
         )

@@ -34,7 +34,7 @@ fn help_explains_floor_beams() {
         "M = q × span² / 8000 in N·mm and Q = q × span / 2000 in N, both rounded up",
         "is refusal 8, before all others",
         "rounded up to two decimals",
-        "kN/m or кгс/м stops the\nsheet",
+        "kN/m,\nкгс/м or кг·м stops the sheet",
     ] {
         assert!(section.contains(part), "{part}");
     }

@@ -150,6 +150,7 @@ fn verdicts_on_strength_are_those_without_sag() {
     assert_eq!(run.summary(), "38 rows: 14 passed, 13 failed, 11 refused");
     for remark in [
         "\nStrength is for design loads, by bending (7) or shear (8). Sag is for Mn, ",
+        "\nMn is the greatest moment of the beam's unfactored loads, the same loads as typed, with their safety factors at 1.\n",
         "\nWhere neither Mn nor n is filled sag is not checked. Lateral stability is not checked.\n",
     ] {
         assert!(run.out.contains(remark), "{}", run.out);

@@ -8,7 +8,10 @@ fn help_explains_sag() {
     let section = section.split_whitespace().collect::<Vec<_>>().join(" ");
     for part in [
         "strength alone, without lateral stability, and without sag unless Mn or n is filled",
-        "Sag is checked beside strength where Mn or n is filled",
+        "Sag is checked beside strength where Mn or n is filled: leave both blank where no sag is wanted.",
+        "Mn is the greatest moment of the beam's unfactored loads, the same loads as typed, with their safety factors at 1.",
+        "a note says where it is above M or below a tenth of it",
+        "A beam that asks and is refused itself has \"not judged\" there.",
         "E = modulus × e × w / 10000 and Mf = 4 × E × b × h³ / (5 × L × n), both rounded down",
         "the shear factor is 1000000 + 19200000 × h² / L², its second part rounded up",
         "Mn × shear factor / Mf, rounded up",
