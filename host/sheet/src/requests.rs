@@ -42,14 +42,17 @@ struct Further {
 impl Further {
     fn add(&mut self, line: &Line, columns: &Columns, first: usize) {
         let (fields, mut rest) = columns.split(line.text);
-        let is_lone = fields.len() == first + 1 && !fields::is_empty(&fields[first]);
-        if columns.numbers_from(0, line.text) == 0 {
+        let lone = fields
+            .get(first)
+            .filter(|field| fields.len() == first + 1 && !fields::is_empty(field));
+        let is_further = lone.is_some() || rest.any(|field| !fields::is_empty(&field));
+        // A line without numbers is no row.
+        if !is_further || columns.numbers_from(0, line.text) == 0 {
             return;
         }
-        if is_lone && is_number(&fields[first], columns.separator) {
-            self.numbers = true;
-        } else if is_lone || rest.any(|field| !fields::is_empty(&field)) {
-            self.others = true;
+        match lone {
+            Some(field) if is_number(field, columns.separator) => self.numbers = true,
+            _ => self.others = true,
         }
     }
 
