@@ -5,7 +5,7 @@ use native.Mathlib.Omega.{arith}
 use mathlib.Core.List.{List}
 use mathlib.Core.Path.{◌≡◌, refl, sym, ap, subst}
 use Rattle.std.specs.Prelude.{Result as Answer, Ok, Err}
-use Rattle.cells.specs.Refusal.{Result, gives, refuses, refused_by, refusal_code, by_number, result_of, value_or, and_then, leaves, told}
+use Rattle.cells.specs.Refusal.{Result, gives, refuses, refused_by, refusal_number, refusal_cell, refusal_code, result_by, by_number, result_of, value_or, and_then, leaves, told}
 use Rattle.cells.specs.declared.refusal.Refusal.{Refusal}
 
 -- the result beside an answer that refuses
@@ -21,9 +21,12 @@ Gives (gives value) = Unit {0}
 Gives (refuses number cell) = ⊥
 
 -- an answer that says a value is that value
+pub given_by : {A E : Type 0} (number cell : E → ℕ) (answer : Answer A E) (value : A) → result_by number cell answer ≡ gives value → answer ≡ Ok value
+given_by {A = A} number cell (Err refusal) value e = absurd (subst (λ (r : Result A). Gives r) (sym e) tt)
+given_by {A = A} number cell (Ok other) value e = ap (λ (r : Result A). Ok (value_or other r)) e
+
 pub answer_given : {A : Type 0} (answer : Answer A Refusal) (value : A) → by_number answer ≡ gives value → answer ≡ Ok value
-answer_given {A = A} (Err refusal) value e = absurd (subst (λ (r : Result A). Gives r) (sym e) tt)
-answer_given {A = A} (Ok other) value e = ap (λ (r : Result A). Ok (value_or other r)) e
+answer_given answer value e = given_by refusal_number refusal_cell answer value e
 
 -- the first refusal stands: what comes after it is not looked at, the lent bytes stay as they were, and the host is told its code
 pub refusal_stands : {A B : Type 0} (refusal : Refusal) (next : A → Result B) → and_then (refused_by refusal) next ≡ refused_by refusal

@@ -39,10 +39,14 @@ pub data Result (A : Type 0) : Type 0 where
 abbrev pub refused_by : {A : Type 0} → Refusal → Result A
 refused_by refusal = refuses (refusal_number refusal) (refusal_cell refusal)
 
--- what the code's answer says in document 01's terms: its value, or its refusal by number and cell
+-- what the code's answer says in document 01's terms: its value, or its refusal by number and cell, which two functions give of each refusal
+abbrev pub result_by : {A E : Type 0} → (E → ℕ) → (E → ℕ) → Answer A E → Result A
+result_by number cell (Ok value) = gives value
+result_by number cell (Err refusal) = refuses (number refusal) (cell refusal)
+
+-- the same of the refusals 1 to 7
 abbrev pub by_number : {A : Type 0} → Answer A Refusal → Result A
-by_number (Ok value) = gives value
-by_number (Err refusal) = refused_by refusal
+by_number answer = result_by refusal_number refusal_cell answer
 
 -- the same of an answer without a value, and of what was handed over beside it
 abbrev pub result_of : {A : Type 0} → Answer (Unit {0}) Refusal → A → Result A

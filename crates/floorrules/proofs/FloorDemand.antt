@@ -4,9 +4,9 @@ use Prim.Native.Nat.{ℕ}
 use native.Mathlib.Omega.{arith}
 use mathlib.Core.Bool.{true}
 use mathlib.Core.Path.{◌≡◌, ◌∙◌}
-use lib.Dec.{lit≤}
-use Rattle.std.specs.Prelude.{Result as Answer, Ok, Err}
+use Rattle.std.specs.Prelude.{Result as Answer}
 use Rattle.cells.specs.Refusal.{gives}
+use Rattle.cells.proofs.ResultLaws.{given_by}
 use Rattle.member.specs.Acceptance.{accept}
 use Rattle.member.specs.Demand3.{kept_from, EachFrom, Demand3At}
 use Rattle.member.specs.Verdict.{verdict}
@@ -26,7 +26,7 @@ use Rattle.floorrules.proofs.LoadLaws.{moment_rounds, shear_rounds}
 
 -- request 1's factor is one at which it is kept
 pub floor_factor_kept : EachFrom kept_from floor_factor
-floor_factor_kept c = lit≤ tt
+floor_factor_kept c = omega arith
 
 module _ (l : Loading) (cells : BeamCells) (m : Member) (given : accept (beam_row l cells) ≡ gives m) where
   -- the verdict on the row keeps demand 3 at the loads' own M and Q
@@ -43,15 +43,10 @@ module _ (l : Loading) (cells : BeamCells) (m : Member) (given : accept (beam_ro
   pub floor_gives : loading_in_range l ≡ true → floor_beam l cells ≡ gives (besides l (verdict m))
   floor_gives within = rw (within, given)
 
--- an answer that says a verdict is that verdict
-judged_only : (answer : Answer BeamVerdict BeamRefusal) (v : BeamVerdict) → beam_answer_result answer ≡ gives v → answer ≡ Ok v
-judged_only (Err refusal) v e = absurd (let z : ◌≡◌ {A = ℕ} 0 1 = cc in omega arith)
-judged_only (Ok w) v e = cc
-
 pub answer_keeps : (l : Loading) (cells : BeamCells) (answer : Answer BeamVerdict BeamRefusal) → beam_answer_result answer ≡ floor_beam l cells
     → (k : Check → ℕ) → EachFrom kept_from k → KeepsFloorDemand l cells answer k
 answer_keeps l cells answer says k big m within given = (
   besides l (verdict m),
-  judged_only answer _ (says ∙ floor_gives l cells m given within),
+  given_by _ _ answer _ (says ∙ floor_gives l cells m given within),
   verdict_keeps l cells m given k big,
 )

@@ -1,7 +1,7 @@
 -- The floor-beam check: its refusals, and the verdict with what was made of the loads.
 -- Assumes nothing.
-use Rattle.std.specs.Prelude.{ℕ, ◌+◌, ◌*◌, cond, Result as Answer, Ok, Err}
-use Rattle.cells.specs.Refusal.{Result, gives, refuses, and_then, refusal_number, refusal_cell}
+use Rattle.std.specs.Prelude.{ℕ, ◌+◌, ◌*◌, cond, Result as Answer}
+use Rattle.cells.specs.Refusal.{Result, gives, refuses, and_then, refusal_number, refusal_cell, result_by}
 use Rattle.member.specs.Verdict.{check_row}
 use Rattle.member.specs.declared.verdict.Verdict.{Verdict}
 use Rattle.floorrules.specs.BeamRow.{beam_row}
@@ -41,5 +41,4 @@ beam_refusal_code refusal = 1000 * beam_refusal_number refusal + beam_refusal_ce
 
 -- what an answer says as a result: its value, a verdict mostly, or a refusal by number and cell
 abbrev pub beam_answer_result : {A : Type 0} → Answer A BeamRefusal → Result A
-beam_answer_result (Ok value) = gives value
-beam_answer_result (Err refusal) = refuses (beam_refusal_number refusal) (beam_refusal_cell refusal)
+beam_answer_result answer = result_by beam_refusal_number beam_refusal_cell answer

@@ -13,7 +13,7 @@ use Rattle.rounding.proofs.Ranges.{in_lit, in_mul, in_div}
 use Rattle.rounding.proofs.RoundingLaws.{rounding_down}
 use Rattle.sp64.specs.Tables.{grades, table_strength}
 use Rattle.sp64.specs.declared.tables.Stress.TheVariants.{Bending}
-use Rattle.sp64.proofs.TableLaws.{listed_in}
+use Rattle.sp64.proofs.TableLaws.{listed_in, known_by}
 use Rattle.sagrules.specs.Elasticity.{table_modulus, elastic_duration, undivided_modulus, design_modulus, exact_design_modulus}
 use Rattle.sagrules.specs.Sag.{SagBeamRanges}
 use Rattle.sagrules.specs.declared.sag.SagBeam.{SagBeam}
@@ -35,13 +35,7 @@ duration_of_others regime not-b not-v = rw (ne_eqb regime 2 not-b, ne_eqb regime
 
 -- a grade that Table 7 knows is one that Table В.2а knows
 pub known_modulus : (grade : ℕ) → 0 < table_strength Bending grade → 0 < table_modulus grade
-known_modulus grade = by (eqb grade 1) (eqb grade 2) (eqb grade 3)
-  where
-    by : (x y z : Bool) → 0 < cond x 39000 (cond y 34000 (cond z 30000 0)) → 0 < cond x 12000 (cond y 11000 (cond z 10000 0))
-    by true y z known = lit< tt
-    by false true z known = lit< tt
-    by false false true known = lit< tt
-    by false false false known = known
+known_modulus grade = known_by (eqb grade 1) (eqb grade 2) (eqb grade 3) 12000 11000 10000 (omega arith)
 
 pub modulus_in : (grade : ℕ) → 0 < table_modulus grade → In 10000 12000 (table_modulus grade)
 modulus_in grade = listed_in (grades 12000 11000 10000) grade (omega arith)

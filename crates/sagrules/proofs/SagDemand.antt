@@ -7,10 +7,10 @@ use mathlib.Core.List.{List}
 use mathlib.Core.Path.{◌≡◌, refl, ◌∙◌, subst}
 use lib.Dec.{lit≤}
 use lib.ListN.{length}
-use Rattle.std.specs.Prelude.{Result as Answer, Ok, Err}
+use Rattle.std.specs.Prelude.{Result as Answer}
 use Rattle.cells.specs.Refusal.{gives}
 use Rattle.cells.specs.Row.{cell_count, Cell}
-use Rattle.cells.proofs.ResultLaws.{then_given}
+use Rattle.cells.proofs.ResultLaws.{then_given, given_by}
 use Rattle.member.specs.Acceptance.{accept}
 use Rattle.member.specs.Ranges.{Sized}
 use Rattle.member.specs.declared.kind.Kind.{Kind}
@@ -77,15 +77,10 @@ accepted_beam_ranges cells b whole e =
 pub sag_gives : (cells : List Cell) (s : Sag) (b : SagBeam) → accept_beam cells ≡ gives b → sag_in_range s ≡ true → check_sag cells s ≡ gives (sag_verdict b s)
 sag_gives cells s b given within = rw (given, within)
 
--- an answer that says a verdict is that verdict
-judged_only : (answer : Answer SagVerdict SagRefusal) (v : SagVerdict) → sag_answer_result answer ≡ gives v → answer ≡ Ok v
-judged_only (Err refusal) v e = absurd (let z : ◌≡◌ {A = ℕ} 0 1 = cc in omega arith)
-judged_only (Ok w) v e = cc
-
 pub answer_keeps : (cells : List Cell) (s : Sag) (answer : Answer SagVerdict SagRefusal) → length cells ≡ cell_count → sag_answer_result answer ≡ check_sag cells s
     → (k : ℕ) → sag_kept_from ≤ k → KeepsSagDemand cells s answer k
 answer_keeps cells s answer whole says k big b given within = (
   sag_verdict b s,
-  judged_only answer _ (says ∙ sag_gives cells s b given within),
+  given_by _ _ answer _ (says ∙ sag_gives cells s b given within),
   verdict_keeps (accepted_beam_ranges cells b whole given) (sag_ranges s within) k big,
 )

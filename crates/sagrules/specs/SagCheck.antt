@@ -1,7 +1,7 @@
 -- The sag check: its refusals, and the verdict with the figures that it follows from.
 -- Assumes nothing.
-use Rattle.std.specs.Prelude.{ℕ, ◌+◌, ◌*◌, List, cond, Result as Answer, Ok, Err}
-use Rattle.cells.specs.Refusal.{Result, gives, refuses, and_then, refusal_number, refusal_cell}
+use Rattle.std.specs.Prelude.{ℕ, ◌+◌, ◌*◌, List, cond, Result as Answer}
+use Rattle.cells.specs.Refusal.{Result, gives, refuses, and_then, refusal_number, refusal_cell, result_by}
 use Rattle.cells.specs.Row.{Cell}
 use Rattle.member.specs.Acceptance.{accept}
 use Rattle.member.specs.declared.kind.Kind.{Kind}
@@ -75,5 +75,4 @@ sag_refusal_code refusal = 1000 * sag_refusal_number refusal + sag_refusal_cell 
 
 -- what an answer says as a result: its value, a verdict mostly, or a refusal by number and cell
 abbrev pub sag_answer_result : {A : Type 0} → Answer A SagRefusal → Result A
-sag_answer_result (Ok value) = gives value
-sag_answer_result (Err refusal) = refuses (sag_refusal_number refusal) (sag_refusal_cell refusal)
+sag_answer_result answer = result_by sag_refusal_number sag_refusal_cell answer

@@ -62,7 +62,8 @@ greatest_table Compression = 32000
 greatest_table Tension = 31000
 greatest_table Shear = 4100
 
-known_by : (x y z : Bool) (k45 k40 k35 : ℕ) → (0 < k45) × (0 < k40) × (0 < k35) → 0 < cond x 39000 (cond y 34000 (cond z 30000 0)) → 0 < cond x k45 (cond y k40 (cond z k35 0))
+-- a grade that has a strength in bending is one of three, so it has a figure wherever all three have one
+pub known_by : (x y z : Bool) (k45 k40 k35 : ℕ) → (0 < k45) × (0 < k40) × (0 < k35) → 0 < cond x 39000 (cond y 34000 (cond z 30000 0)) → 0 < cond x k45 (cond y k40 (cond z k35 0))
 known_by true y z k45 k40 k35 some known = some.0
 known_by false true z k45 k40 k35 some known = some.1
 known_by false false true k45 k40 k35 some known = some.2
