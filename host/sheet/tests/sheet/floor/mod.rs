@@ -1,6 +1,7 @@
 //! Floor beams, `sheet --floor`: what is theirs alone. What they share with members is tested with members, and here in part.
 use crate::common::{Run, Scratch};
-use lvl_addin::floor_beam::{HostBeam, BEAM_CELLS};
+use lvl_addin::floor_beam::{BeamVerdict, HostBeam, BEAM_CELLS};
+use lvl_addin::row::{HostRow, CELLS};
 use std::path::Path;
 
 mod answer_columns;
@@ -66,4 +67,20 @@ pub fn cells_of(beam: &str) -> HostBeam {
         *to = cell(text);
     }
     cells
+}
+
+/// The row of kind 2 that request 1 makes of a beam.
+pub fn row_of(beam: &HostBeam, found: &BeamVerdict) -> HostRow {
+    let [_, _, _, grade, moisture, factor, width, height] = *beam;
+    let mut row = [None; CELLS];
+    row[0] = Some(2.0);
+    row[1] = grade;
+    row[2] = Some(found.regime.into());
+    row[3] = moisture;
+    row[4] = factor;
+    row[5] = width;
+    row[6] = height;
+    row[8] = Some(found.moment as f64);
+    row[9] = Some(found.shear as f64);
+    row
 }

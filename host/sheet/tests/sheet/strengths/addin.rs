@@ -1,11 +1,9 @@
 //! The strengths that are shown are those of the add-in, for every row of both examples.
 use super::{columns, row_lines, shown_for, strengths};
 use crate::common::{cells_of, hall_roof, table};
-use crate::floor;
+use crate::floor::{self, row_of};
 use lvl_addin::answer::Refusal;
 use lvl_addin::entry;
-use lvl_addin::floor_beam::{BeamVerdict, HostBeam};
-use lvl_addin::row::{HostRow, CELLS};
 use lvl_addin::strengths::{Strength, Strengths};
 use lvl_sheet::floor_row;
 
@@ -46,22 +44,6 @@ fn the_hall_roof() {
             Err(_) => assert_eq!(columns(line)[9..], columns(judged)[6..], "{line}"),
         }
     }
-}
-
-/// The row of kind 2 that request 1 makes of a beam.
-fn row_of(beam: &HostBeam, found: &BeamVerdict) -> HostRow {
-    let [_, _, _, grade, moisture, factor, width, height] = *beam;
-    let mut row = [None; CELLS];
-    row[0] = Some(2.0);
-    row[1] = grade;
-    row[2] = Some(found.regime.into());
-    row[3] = moisture;
-    row[4] = factor;
-    row[5] = width;
-    row[6] = height;
-    row[8] = Some(found.moment as f64);
-    row[9] = Some(found.shear as f64);
-    row
 }
 
 #[test]

@@ -1,10 +1,9 @@
 //! Sag in a sheet of floor beams, which some beams ask for in two columns of their own.
-use super::{cells_of, floor, BEAM, HEADER};
+use super::{cells_of, floor, row_of, BEAM, HEADER};
 use crate::common::Run;
 use lvl_addin::answer::Refusal;
 use lvl_addin::entry;
 use lvl_addin::floor_beam::BeamVerdict;
-use lvl_addin::row::{HostRow, CELLS};
 use lvl_addin::sag::{HostSag, SagVerdict};
 
 mod addin;
@@ -53,22 +52,6 @@ pub fn answer<'a>(out: &'a str, line: &'a str, heading: &str) -> &'a str {
     line.rsplit(',').nth(from_end).unwrap()
 }
 
-/// The row of kind 2 that request 1 makes of a beam.
-pub fn row_of(beam: &str, found: &BeamVerdict) -> HostRow {
-    let [_, _, _, grade, moisture, factor, width, height] = cells_of(beam);
-    let mut row = [None; CELLS];
-    row[0] = Some(2.0);
-    row[1] = grade;
-    row[2] = Some(found.regime.into());
-    row[3] = moisture;
-    row[4] = factor;
-    row[5] = width;
-    row[6] = height;
-    row[8] = Some(found.moment as f64);
-    row[9] = Some(found.shear as f64);
-    row
-}
-
 /// The cells that a beam's line, which has both columns, asks for the sag with: its span, Mn and n.
 pub fn sag_cells(beam: &str) -> HostSag {
     let mut last = beam.rsplit(',');
@@ -81,7 +64,7 @@ pub fn sag_cells(beam: &str) -> HostSag {
 pub fn sag_of(beam: &str, found: &BeamVerdict) -> Option<Result<SagVerdict, Refusal>> {
     let cells = sag_cells(beam);
     let is_asked_for = cells[1].is_some() || cells[2].is_some();
-    is_asked_for.then(|| entry::check_sag(&row_of(beam, found), &cells))
+    is_asked_for.then(|| entry::check_sag(&row_of(&cells_of(beam), found), &cells))
 }
 
 /// The sag of a beam that is not refused.
