@@ -40,7 +40,7 @@ filled_as false true e h = sym h
 filled_as true false e h = refl
 filled_as false false e h = e
 
-passes_test : (f t : Bool) → f ≡ true → f && not t ≡ false → t ≡ true
+pub passes_test : (f t : Bool) → f ≡ true → f && not t ≡ false → t ≡ true
 passes_test true true e h = refl
 passes_test true false e h = sym h
 passes_test false true e h = refl
@@ -56,14 +56,15 @@ same_as_true : (x : Bool) → beq x true ≡ true → x ≡ true
 same_as_true true e = refl
 same_as_true false e = e
 
-module _ (kind : Kind) (begun : Bool) (cells : List Cell) (whole : length cells ≡ cell_count) (ok : Unbroken kind begun cells) where
-  -- no cell breaks a rule
-  unbroken : (test : ℕ → Cell → Bool) → lowest_cell test cells ≡ 0 → (k : ℕ) → k < cell_count → test (1 + k) (get_or cells k None) ≡ false
-  unbroken test e k h = lowest_none test 1 cells (lit< tt) e k None (omega arith)
+-- where no cell is found that breaks a rule, none does
+pub unbroken : (cells : List Cell) → length cells ≡ cell_count → (test : ℕ → Cell → Bool) → lowest_cell test cells ≡ 0 → (k : ℕ) → k < cell_count
+    → test (1 + k) (get_or cells k None) ≡ false
+unbroken cells whole test e k h = lowest_none test 1 cells (lit< tt) e k None (omega arith)
 
+module _ (kind : Kind) (begun : Bool) (cells : List Cell) (whole : length cells ≡ cell_count) (ok : Unbroken kind begun cells) where
   -- a cell that the kind fills is filled
   filled_at : (k : ℕ) → k < cell_count → wanted kind begun (1 + k) ≡ true → filled (get_or cells k None) ≡ true
-  filled_at k h w = filled_as _ _ w (unbroken (misfilled kind begun) ok.fill k h)
+  filled_at k h w = filled_as _ _ w (unbroken cells whole (misfilled kind begun) ok.fill k h)
 
   value_at_lem : (k : ℕ) → get_or (values_of cells) k 0 ≡ value_of (get_or cells k None)
   value_at_lem k = get_or-map value_of cells k None
@@ -71,7 +72,7 @@ module _ (kind : Kind) (begun : Bool) (cells : List Cell) (whole : length cells 
   -- its value is in its range
   pub cell_in : (k : ℕ) → k < cell_count → wanted kind begun (1 + k) ≡ true → In (get_or ranges k (0, 0)).0 (get_or ranges k (0, 0)).1 (get_or (values_of cells) k 0)
   cell_in k h w =
-      let here : in_range (1 + k) (value_of (get_or cells k None)) ≡ true = passes_test _ _ (filled_at k h w) (unbroken out_of_range ok.range k h) in
+      let here : in_range (1 + k) (value_of (get_or cells k None)) ≡ true = passes_test _ _ (filled_at k h w) (unbroken cells whole out_of_range ok.range k h) in
       let at : k ≡ 1 + k - 1 = omega arith in
       let inside = ap (λ (i : ℕ). within (get_or ranges i (0, 0)).0 (get_or ranges i (0, 0)).1 (value_of (get_or cells k None))) at ∙ here in
       let b = both_true _ _ inside in
@@ -79,7 +80,7 @@ module _ (kind : Kind) (begun : Bool) (cells : List Cell) (whole : length cells 
 
   -- its code is known
   pub code_known : (k : ℕ) → k < cell_count → wanted kind begun (1 + k) ≡ true → known_code kind (1 + k) (get_or (values_of cells) k 0) ≡ true
-  code_known k h w = rw (value_at_lem k) (passes_test _ _ (filled_at k h w) (unbroken (unknown_code kind) ok.code k h))
+  code_known k h w = rw (value_at_lem k) (passes_test _ _ (filled_at k h w) (unbroken cells whole (unknown_code kind) ok.code k h))
 
 -- a kind without optional cells begins none
 none_begun : (kind : Kind) (cells : List Cell) → ((n : ℕ) → optional kind n ≡ false) → is_begun kind cells ≡ true → ⊥
@@ -204,38 +205,46 @@ module _ (kind : Kind) (cells : List Cell) {begun : Bool} (is : begun ≡ is_beg
   unfolding accept_kind
   none_refused ok = rw (← is, ok.fill, ok.code, ok.range)
 
--- what follows from a result that no refusal stands before
-given_unless : (m : Member) {P : Type 0} (number cell : ℕ) (rest : Result Member) → (rest ≡ gives m → P) → unless_refused number cell rest ≡ gives m → P
-given_unless m {P} number cell rest then = by (eqb cell 0)
-  where
-    by : (t : Bool) → cond t rest (refuses number cell) ≡ gives m → P
-    by true e = then e
-    by false e = absurd (let z : ◌≡◌ {A = ℕ} 0 1 = cc in omega arith)
+-- what holds of the member of a row that breaks no rule holds of whatever member acceptance gives
+module _ (P : Member → Type 0) (cells : List Cell) where
+  -- it holds of the member that a result gives, if that gives one
+  abbrev HoldsOf : Result Member → Type 0
+  HoldsOf (gives m) = P m
+  HoldsOf (refuses number cell) = Unit
+
+  -- it holds of the row's member, taken as of this kind, if no cell breaks a rule
+  abbrev OfUnbroken : Kind → Type 0
+  OfUnbroken kind = Unbroken kind (is_begun kind cells) cells → P (member_of kind (is_begun kind cells) (values_of cells))
+
+  of_unless : (number cell : ℕ) (rest : Result Member) → (cell ≡ 0 → HoldsOf rest) → HoldsOf (unless_refused number cell rest)
+  of_unless number cell rest holds = by (eqb cell 0) refl
+    where
+      by : (t : Bool) → eqb cell 0 ≡ t → HoldsOf (cond t rest (refuses number cell))
+      by true e = holds (eqb-true _ _ e)
+      by false e = tt
+
+  of_kind : (kind : Kind) → OfUnbroken kind → HoldsOf (accept_kind kind cells)
+  unfolding accept_kind
+  of_kind kind holds = of_unless 2 _ _ (λ f. of_unless 3 _ _ (λ c. of_unless 4 _ _ (λ r. holds (record { fill = f; code = c; range = r }))))
+
+  of_code : (code : Option Kind) → ((kind : Kind) → OfUnbroken kind) → HoldsOf (accept_code code cells)
+  of_code None holds = tt
+  of_code (Some kind) holds = of_kind kind (holds kind)
+
+  of_first : (first : Cell) → ((kind : Kind) → OfUnbroken kind) → HoldsOf (accept_first first cells)
+  of_first None holds = tt
+  of_first (Some code) holds = of_code (kind_of code) holds
+
+  pub of_accepted : ((kind : Kind) → OfUnbroken kind) → (m : Member) → accept cells ≡ gives m → P m
+  of_accepted holds m e = rw e at (of_first (get_or cells 0 None) holds)
 
 -- what a row of a known kind gives, where it is not refused, is the member of its cells
 pub accepted_member : (kind : Kind) (cells : List Cell) (m : Member) → accept_kind kind cells ≡ gives m → m ≡ member_of kind (is_begun kind cells) (values_of cells)
-unfolding accept_kind
-accepted_member kind cells m =
-    given_unless m 2 (lowest_cell (misfilled kind (is_begun kind cells)) cells) _
-    (given_unless m 3 (lowest_cell (unknown_code kind) cells) _ (given_unless m 4 (lowest_cell out_of_range cells) _ given))
-  where
-    here : Member
-    here = member_of kind (is_begun kind cells) (values_of cells)
-
-    given : gives here ≡ gives m → m ≡ here
-    given e = cc
+accepted_member kind cells m e = rw e at (of_kind (λ (m : Member). m ≡ member_of kind (is_begun kind cells) (values_of cells)) cells kind (λ ok. refl))
 
 -- an accepted member is its row's cells by name, for its kind and whether it has a joint
 pub accepted_by_name : (cells : List Cell) (m : Member) → accept cells ≡ gives m → m ≡ member_of m.kind m.jointed (values_of cells)
-accepted_by_name cells m = by (get_or cells 0 None)
-  where
-    by_code : (code : Option Kind) → accept_code code cells ≡ gives m → m ≡ member_of m.kind m.jointed (values_of cells)
-    by_code None e = absurd (let z : ◌≡◌ {A = ℕ} 0 1 = cc in omega arith)
-    by_code (Some kind) e = rw (accepted_member kind cells m e)
-
-    by : (first : Cell) → accept_first first cells ≡ gives m → m ≡ member_of m.kind m.jointed (values_of cells)
-    by None e = absurd (let z : ◌≡◌ {A = ℕ} 0 1 = cc in omega arith)
-    by (Some code) e = by_code (kind_of code) e
+accepted_by_name cells = of_accepted (λ (m : Member). m ≡ member_of m.kind m.jointed (values_of cells)) cells (λ kind ok. refl)
 
 -- so its material follows from cells 2 to 5
 pub accepted_material : (cells : List Cell) (m : Member) → accept cells ≡ gives m
@@ -246,32 +255,6 @@ accepted_material cells m e = ap (λ (m : Member). m.material) (accepted_by_name
 pub accepted_regime : (cells : List Cell) (m : Member) → accept cells ≡ gives m → m.regime ≡ value_at (values_of cells) 3
 accepted_regime cells m e = ap (λ (m : Member). m.regime) (accepted_by_name cells m e)
 
--- what a result of acceptance promises: a member that keeps its ranges
-abbrev RangesKept : Result Member → Type 0
-RangesKept (gives m) = RangesOf m.kind m
-RangesKept (refuses number cell) = Unit
-
-kept_unless : (number cell : ℕ) (rest : Result Member) → (cell ≡ 0 → RangesKept rest) → RangesKept (unless_refused number cell rest)
-kept_unless number cell rest keep = by (eqb cell 0) refl
-  where
-    by : (t : Bool) → eqb cell 0 ≡ t → RangesKept (cond t rest (refuses number cell))
-    by true e = keep (eqb-true _ _ e)
-    by false e = tt
-
-kept_kind : (kind : Kind) (cells : List Cell) → length cells ≡ cell_count → RangesKept (accept_kind kind cells)
-unfolding accept_kind
-kept_kind kind cells whole =
-    kept_unless 2 _ _
-    (λ f. kept_unless 3 _ _ (λ c. kept_unless 4 _ _ (λ r. accepted_ranges kind cells whole refl (record { fill = f; code = c; range = r }))))
-
-kept_code : (code : Option Kind) (cells : List Cell) → length cells ≡ cell_count → RangesKept (accept_code code cells)
-kept_code None cells whole = tt
-kept_code (Some kind) cells whole = kept_kind kind cells whole
-
-kept_first : (first : Cell) (cells : List Cell) → length cells ≡ cell_count → RangesKept (accept_first first cells)
-kept_first None cells whole = tt
-kept_first (Some code) cells whole = kept_code (kind_of code) cells whole
-
 -- the member that acceptance gives keeps the ranges of its kind
 pub accept_ranges : (cells : List Cell) (m : Member) → length cells ≡ cell_count → accept cells ≡ gives m → RangesOf m.kind m
-accept_ranges cells m whole e = rw e at (kept_first (get_or cells 0 None) cells whole)
+accept_ranges cells m whole = of_accepted (λ (m : Member). RangesOf m.kind m) cells (λ kind ok. accepted_ranges kind cells whole refl ok) m
