@@ -5,7 +5,7 @@ ghost use Rattle.cells.specs.Refusal.{by_number};
 ghost use Rattle.cells.specs.Row.{cells_of};
 ghost use Rattle.member.specs.Acceptance.{accept_kind, accept};
 
-use crate::naming::{member_of, values_of};
+use crate::naming::member_of;
 use crate::searches::{is_begun, lowest_misfilled, lowest_outside, lowest_unknown};
 use cellrules::kind::kind_of;
 use cells::refusal::Refusal;
@@ -28,7 +28,7 @@ fn accept_kind(kind: Kind, row: Row) -> Result<Member, Refusal>
     if let Some(cell) = lowest_outside(row) {
         return Err(Refusal::OutOfRange(cell));
     }
-    Ok(member_of(kind, begun, values_of(row)))
+    Ok(member_of(kind, begun, row))
 }
 
 // "Check a row", its refusals 2, 3 and 4: the member that a row describes, or a refusal by number and cell.

@@ -25,12 +25,12 @@ pub struct KnownJoint {
 
 impl KnownJoint {
     // Check 1.
-    pub fn layout_holds(self, h: u64) -> bool
+    pub fn layout_holds(self, h: u16) -> bool
         requires { InHeight h }
         ensures { result ≡ layout_holds h self.joint }
     {
         let j = self.joint;
-        (7 * j.across + 5) * j.diameter <= 2 * h
+        (7 * j.across + 5) * j.diameter <= 2 * u64::from(h)
     }
 
     // A term of g, in hundredths of N: crushing of the core or of a side piece, by its coefficient and its thickness.
@@ -52,19 +52,19 @@ impl KnownJoint {
     }
 
     // g
-    fn least_term(self, b: u64) -> u64
+    fn least_term(self, b: u16) -> u64
         requires { InWidth b }
         ensures { Value InUndivided (least_term b self.joint) result }
     {
         let j = self.joint;
-        let core = self.crushing(j.kc, b);
+        let core = self.crushing(j.kc, u64::from(b));
         let side = self.crushing(j.ka, j.side);
         core.min(side.min(self.dowel_bending()))
     }
 
     // T, in mN.
     #[tactic(auto, using(sp64::proofs::JointLaws::capacity_at_once, sp64::proofs::JointLaws::capacity_in))]
-    fn dowel_capacity(self, b: u64, m: KnownMaterial) -> u64
+    fn dowel_capacity(self, b: u16, m: KnownMaterial) -> u64
         requires { InWidth b }
         ensures { Value InDowelCapacity (dowel_capacity b self.joint m.material) result }
     {
@@ -72,7 +72,7 @@ impl KnownJoint {
     }
 
     // The dowels that the axial force n needs.
-    pub fn count(self, n: u64, b: u64, m: KnownMaterial) -> u64
+    pub fn count(self, n: u64, b: u16, m: KnownMaterial) -> u64
         requires { InForce n × InWidth b }
         ensures { Value InCount (joint_count n b self.joint m.material) result }
     {

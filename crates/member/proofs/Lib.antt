@@ -1,5 +1,6 @@
 pub mod AcceptedRows
 pub mod AcceptanceLaws
+pub mod Lengths
 pub mod VerdictLaws
 pub mod DemandLaws
 pub mod Reliance

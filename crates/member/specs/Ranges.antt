@@ -33,3 +33,10 @@ pub record RangesOf (kind : Kind) (m : Member) : Type 0 where
   -- kind 1 alone has a joint
   pub tension : m.jointed ≡ true → kind ≡ Tension
   pub joint : m.jointed ≡ true → JointRanges m.joint
+
+-- request 4: no width, height or effective length above 20,000, the greatest that acceptance leaves (a blank is 0)
+pub record NarrowLengths (m : Member) : Type 0 where
+  pub width : m.width ≤ 20000
+  pub height : m.height ≤ 20000
+  pub lh : m.lh ≤ 20000
+  pub lb : m.lb ≤ 20000

@@ -11,7 +11,7 @@ use sagfigures::beam::KnownSagBeam;
 use sagrules::answer::SagRefusal;
 use sagrules::sag::SagBeam;
 
-// The beam that a row describes: the row's refusals first, then that of another kind than bending.
+// The beam that a row describes: the row's refusals first, then that of another kind than bending. Its sides are widened here: a sag multiplies them at once.
 pub fn accept_beam(row: Row) -> Result<KnownSagBeam, SagRefusal>
     ensures { map_given (λ known. known.beam) (sag_answer_result result) ≡ accept_beam (cells_of row) }
 {
@@ -22,8 +22,8 @@ pub fn accept_beam(row: Row) -> Result<KnownSagBeam, SagRefusal>
                 grade: m.material.grade,
                 regime: m.regime,
                 moisture: m.material.moisture,
-                width: m.width,
-                height: m.height,
+                width: u64::from(m.width),
+                height: u64::from(m.height),
             },
         }),
         _ => Err(SagRefusal::NotBending),

@@ -20,8 +20,8 @@ fn area_capacity(width: u64, height: u64, r: u64) -> u64
 // A cross-section: b and h, in their ranges.
 #[derive(Clone, Copy)]
 pub struct CrossSection {
-    pub width: u64,
-    pub height: u64,
+    pub width: u16,
+    pub height: u16,
     pub ghost ranges: { Section width height },
 }
 
@@ -31,7 +31,7 @@ impl CrossSection {
         requires { InAxialStrength r }
         ensures { Value InNR (axial_capacity self.width self.height r) result }
     {
-        area_capacity(self.width, self.height, r)
+        area_capacity(u64::from(self.width), u64::from(self.height), r)
     }
 
     // MR, check 7, in N·mm.
@@ -39,7 +39,8 @@ impl CrossSection {
         requires { InStrength Bending r }
         ensures { Value InMR (bending_capacity self.width self.height r) result }
     {
-        self.width * (self.height * self.height) * r / 6000
+        let height = u64::from(self.height);
+        u64::from(self.width) * (height * height) * r / 6000
     }
 
     // Check 8, in N.
@@ -47,14 +48,14 @@ impl CrossSection {
         requires { InStrength Shear r }
         ensures { Value InShearCapacity (shear_capacity self.width self.height r) result }
     {
-        2 * (self.width * self.height) * r / 3000
+        2 * (u64::from(self.width) * u64::from(self.height)) * r / 3000
     }
 }
 
 // A joint whose layout holds in a height, each in its ranges. Not over `KnownJoint`: this crate does not stand on `dowels`.
 #[derive(Clone, Copy)]
 pub struct LaidOutJoint {
-    pub height: u64,
+    pub height: u16,
     pub joint: Joint,
     pub ghost in_height: { InHeight height },
     pub ghost ranges: { JointRanges joint },
@@ -66,15 +67,15 @@ impl LaidOutJoint {
     fn net_height(self) -> u64
         ensures { Value (In 30 2500) (net_height self.height self.joint) result }
     {
-        self.height - self.joint.across * self.joint.diameter
+        u64::from(self.height) - self.joint.across * self.joint.diameter
     }
 
     // Check 5 with a joint, in a section of width b.
-    pub fn net_tension_capacity(self, b: u64, r: u64) -> u64
+    pub fn net_tension_capacity(self, b: u16, r: u64) -> u64
         requires { InWidth b × InAxialStrength r }
         ensures { Value InNetCapacity (net_tension_capacity b self.height self.joint r) result }
     {
-        area_capacity(b, self.net_height(), r)
+        area_capacity(u64::from(b), self.net_height(), r)
     }
 
     // Check 6.

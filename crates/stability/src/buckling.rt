@@ -19,8 +19,7 @@ impl KnownStrut {
     fn slender_phi(self) -> u64
         ensures { Value InSlenderPhi (slender_phi self.strut) result }
     {
-        let strut = self.strut;
-        250_000_000 * (strut.side * strut.side) / (strut.length * strut.length)
+        250_000_000 * self.side_squared() / self.length_squared()
     }
 
     // φ of checks 9 and 10, in millionths.
@@ -28,8 +27,8 @@ impl KnownStrut {
     pub fn buckling_phi(self) -> u64
         ensures { Value InPhi (buckling_phi self.strut) result }
     {
-        let l2 = self.strut.length * self.strut.length;
-        let s2 = self.strut.side * self.strut.side;
+        let l2 = self.length_squared();
+        let s2 = self.side_squared();
         if 12 * l2 <= 4900 * s2 {
             1_000_000 - rounding::round_up(960 * l2, s2)
         } else {

@@ -11,7 +11,6 @@ impl KnownStrut {
         requires { InLimit limit }
         ensures { result ≡ slenderness_holds limit self.strut }
     {
-        let strut = self.strut;
-        12 * (strut.length * strut.length) <= limit * limit * (strut.side * strut.side)
+        12 * self.length_squared() <= limit * limit * self.side_squared()
     }
 }

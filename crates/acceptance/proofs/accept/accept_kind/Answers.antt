@@ -2,7 +2,6 @@
 -- Assumes nothing.
 use Rattle.std.proofs.Common.{sym, ap, ◌∙◌}
 use Rattle.cells.specs.Refusal.{gives}
-use Rattle.member.specs.Member.{member_of}
 use Rattle.member.proofs.AcceptanceLaws.{fill_refused, code_refused, range_refused, none_refused}
 use Rattle.acceptance.proofs.SearchLaws.{found_some, found_none}
 use Rattle.acceptance.proofs.accept.accept_kind.Goals as goal
@@ -30,7 +29,7 @@ returns-in-Some-lowest_outside c =
 
 pub returns : goal.returns
 returns c =
-    ap gives (c.member_of.ensures ∙ ap (member_of _ _) c.values_of.ensures)
+    ap gives c.member_of.ensures
     ∙ sym (
     none_refused _ _ c.is_begun-begun.ensures
     (record {

@@ -9,4 +9,4 @@ use Rattle.sagcheck.proofs.beam.accept_beam.Goals as goal
 pub invariant_of-result : goal.invariant_of-result
 invariant_of-result c =
     let whole : length (cells_of c.args.row) ≡ cell_count = search rules in
-    record { ranges = member_ranges c.in_ok-m.m (accept_ranges (cells_of c.args.row) _ whole (sym c.in_ok-m.ensures)).sized }
+    record { ranges = rw (c.from.ensures, c.from-in-Bending.ensures) (member_ranges c.in_ok-m.m (accept_ranges (cells_of c.args.row) _ whole (sym c.in_ok-m.ensures)).sized) }
