@@ -86,6 +86,7 @@ impl Iterator for Cases {
         let random = &mut self.random;
         let cells = match random.below(16) {
             0..=11 => judged::any_row(random),
+            12 => refused::row_with_a_high_bit(random),
             _ => refused::row(random),
         };
         let mut row = bytes_of(&cells);

@@ -17,6 +17,15 @@ pub fn row(random: &mut Random) -> Cells {
     cells
 }
 
+/// A row with a cell that would look right in fewer bits: refused, but where its range holds what was added.
+pub fn row_with_a_high_bit(random: &mut Random) -> Cells {
+    let mut cells = judged::any_row(random);
+    let number = random.between(1, CELLS as u64) as usize;
+    cells[number - 1] =
+        cells[number - 1].map(|value| value + (1 << random.pick(&[8, 14, 15, 16, 17, 32, 33])));
+    cells
+}
+
 fn spoil(random: &mut Random, cells: &mut Cells) {
     let number = random.between(1, CELLS as u64) as usize;
     match random.below(9) {
