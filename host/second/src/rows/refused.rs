@@ -1,4 +1,4 @@
-//! Rows that the check refuses, often for several faults at once.
+//! Rows that the check refuses, all but a few, often for several faults at once.
 use super::judged;
 use super::random::Random;
 use crate::cells::*;
@@ -17,12 +17,15 @@ pub fn row(random: &mut Random) -> Cells {
     cells
 }
 
-/// A row with a cell that would look right in fewer bits: refused, but where its range holds what was added.
+/// A row with a power of two added to one cell, so that it would look right in fewer bits; judged where the range of the
+/// cell holds the sum.
 pub fn row_with_a_high_bit(random: &mut Random) -> Cells {
     let mut cells = judged::any_row(random);
-    let number = random.between(1, CELLS as u64) as usize;
-    cells[number - 1] =
-        cells[number - 1].map(|value| value + (1 << random.pick(&[8, 14, 15, 16, 17, 32, 33])));
+    let filled = cells.iter().flatten().count() as u64;
+    let place = random.below(filled) as usize;
+    if let Some(value) = cells.iter_mut().flatten().nth(place) {
+        *value += 1 << random.pick(&[8, 14, 15, 16, 17, 32, 33]);
+    }
     cells
 }
 

@@ -1,5 +1,5 @@
-//! Wrong copies that carry widths, heights and effective lengths in too few bits, or narrow them before they are known to
-//! fit.
+//! Wrong copies of narrowing: before a range is tested, of lengths to 14 bits, of squares and areas to 16; and one that
+//! takes the length for the side.
 use lvl_addin::answer::Refusal;
 use lvl_second::cells::*;
 use lvl_second::{Member, Paper, Rules};
@@ -9,7 +9,7 @@ fn in_16_bits(number: u64) -> u64 {
     number % 65_536
 }
 
-/// The refusals of ranges where a cell was narrowed before.
+/// Refusal 4, with one cell narrowed before its range is tested.
 fn ranges_of_narrowed(cells: &Cells, number: usize) -> Result<(), Refusal> {
     let mut narrowed = *cells;
     narrowed[number - 1] = cell(cells, number).map(in_16_bits);
