@@ -30,7 +30,7 @@ module _ (cells : List Cell) (whole : length cells ≡ cell_count) (range : lowe
   value_at_most : (k : ℕ) → k < cell_count → get_or (values_of cells) k 0 ≤ greatest_of (1 + k)
   value_at_most k h = rw (get_or-map value_of cells k None) (cell_at_most (1 + k) _ (unbroken cells whole out_of_range range k h))
 
-  -- 20,000 is the greatest of the four ranges
+  -- and none of the four ranges goes beyond 20,000
   pub narrow_lengths : (kind : Kind) (begun : Bool) → NarrowLengths (member_of kind begun (values_of cells))
   narrow_lengths kind begun =
       record {
