@@ -1,25 +1,47 @@
--- The least number that has a property is one number; that of two properties that stay true upwards is the greater of the two least numbers.
+-- The least number that has a property is one number, and there is one where a number has the property and every greater one with it.
 -- Assumes nothing.
-use Prim.Native.Nat.{ℕ, ◌≤◌, max}
-use native.Mathlib.Nat.{le_antisymm, le-max_left, le-max_right, max-le}
-use mathlib.Core.Path.{◌≡◌}
+use Prim.Native.Nat.{ℕ, zero, suc, ◌≤◌, ◌<◌}
+use native.Mathlib.Nat.{le_antisymm}
+use native.Mathlib.Omega.{arith}
+use mathlib.Core.Path.{◌≡◌, refl, sym, ◌∙◌}
+use mathlib.Core.Logic.{◌↔◌}
+use mathlib.Core.Bool.{Bool, true, false, true≢false, cond}
+use borrow.Author.Tests.{leb-true, leb-false}
+use lib.Dec.{leb}
 use Rattle.rounding.specs.Least.{Least}
 
 pub least_unique : {P : ℕ → Type 0} {m n : ℕ} → Least P m → Least P n → m ≡ n
 least_unique {m = m} {n = n} p q = le_antisymm (p.least n q.holds) (q.least m p.holds)
 
--- a property that once true stays true of every greater number
-abbrev pub Upward : (ℕ → Type 0) → Type 0
-Upward P = (k l : ℕ) → k ≤ l → P k → P l
+-- the least number with a property is that with every property that says the same
+pub least_same : {P Q : ℕ → Type 0} {n : ℕ} → ((k : ℕ) → P k ↔ Q k) → Least P n → Least Q n
+least_same {n = n} same l = record { holds = (same n).0 l.holds; least = λ k q. l.least k ((same k).1 q) }
 
--- two such properties together are one
-pub upward_both : {P Q : ℕ → Type 0} → Upward P → Upward Q → Upward (λ k. P k × Q k)
-upward_both p q k l le h = (p k l le h.0, q k l le h.1)
+-- a number with a property that every greater one has too is above a number without it
+pub above_failing : {P : ℕ → Type 0} → ((i j : ℕ) → i ≤ j → P i → P j) → (n k : ℕ) → (P n → ⊥) → P k → n < k
+above_failing {P} up n k fails h = by (leb k n) refl
+  where
+    by : (t : Bool) → leb k n ≡ t → n < k
+    by true e = absurd (fails (up k n (leb-true k n e) h))
+    by false e = leb-false k n e
 
--- and their least number is the greater of the two least numbers
-pub least_both : {P Q : ℕ → Type 0} {m n : ℕ} → Least P m → Least Q n → Upward P → Upward Q → Least (λ k. P k × Q k) (max m n)
-least_both {m = m} {n = n} p q more-P more-Q =
-    record {
-      holds = (more-P m _ (le-max_left m n) p.holds, more-Q n _ (le-max_right m n) q.holds);
-      least = λ k h. max-le (p.least k h.0) (q.least k h.1);
-    }
+-- from n down, the last number before one that fails a test
+abbrev pub least_to : (ℕ → Bool) → ℕ → ℕ
+least_to passes zero = zero
+least_to passes (suc n) = cond (passes n) (least_to passes n) (suc n)
+
+-- it is the least that passes, where n does, and where every number above one that passes does
+module _ (passes : ℕ → Bool) (up : (i j : ℕ) → i ≤ j → passes i ≡ true → passes j ≡ true) where
+  pub least_found : (n : ℕ) → passes n ≡ true → Least (λ k. passes k ≡ true) (least_to passes n)
+  least_found zero h = record { holds = h; least = λ k _. omega arith }
+  least_found (suc n) h =
+      by (passes n) (least_found n)
+      (λ fails. record { holds = h; least = λ k p. omega (arith, above_failing up n k (λ t. true≢false (sym t ∙ fails)) p) })
+    where
+      Is : ℕ → Type 0
+      Is = Least (λ k. passes k ≡ true)
+
+      -- by whether the number before passes too
+      by : {x y : ℕ} (t : Bool) → (t ≡ true → Is x) → (t ≡ false → Is y) → Is (cond t x y)
+      by true less last = less refl
+      by false less last = last refl

@@ -1,6 +1,10 @@
+pub mod Numerals
 pub mod RoundingLaws
 pub mod Ranges
 pub mod LeastLaws
+pub mod GreatestLaws
+pub mod RootLaws
 pub mod FractionLaws
 pub mod Near
 pub mod Soundness
+pub mod NearRoot

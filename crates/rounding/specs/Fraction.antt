@@ -1,6 +1,6 @@
 -- Exact values: fractions of whole numbers, compared by cross multiplication. A fraction stands for a value where its denominator is above zero.
 -- Assumes nothing.
-use Rattle.std.specs.Prelude.{ℕ, ◌+◌, ◌-◌, ◌*◌, ◌≤◌, ◌<◌, ◌≡◌}
+use Rattle.std.specs.Prelude.{ℕ, ◌+◌, ◌-◌, ◌*◌, ◌≤◌, ◌<◌, ◌≡◌, cond, leb}
 
 infixl 70 ◌⊗◌ ◌⊘◌
 infixl 65 ◌⊕◌ ◌⊖◌
@@ -39,6 +39,14 @@ x ≼ y = x.num * y.den ≤ y.num * x.den
 -- x < y
 abbrev pub ◌≺◌ : Fraction → Fraction → Type 0
 x ≺ y = x.num * y.den < y.num * x.den
+
+-- x²
+abbrev pub square : Fraction → Fraction
+square x = x ⊗ x
+
+-- the smaller of x and y
+abbrev pub smaller : Fraction → Fraction → Fraction
+smaller x y = cond (leb (x.num * y.den) (y.num * x.den)) x y
 
 -- two fractions stand for one value: denominators above zero, and equal cross products
 pub record SameValue (x y : Fraction) : Type 0 where
