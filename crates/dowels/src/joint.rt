@@ -1,10 +1,10 @@
-// The dowel joint: layout, dowel count, joint length. The ranges of single numbers, a width, a force, g and a count, stay clauses: as structs of one field they would
+// The dowel joint: layout, dowel count, joint length. The ranges of single numbers, a width, a force, a term, T and a count, stay clauses: as structs of one field they would
 // put that field's name into each product and each contract, and `Value` gives a number with its range (decision 19). The width is no second field of `KnownJoint`:
 // layout and joint length, which ask for none, would then ask for it.
 ghost use Rattle.std.specs.Prelude.{◌*◌, ◌≡◌};
-ghost use Rattle.rounding.specs.Range.{In, Value};
-ghost use Rattle.sp64.specs.Ranges.{InCount, InDowelCapacity, InForce, InHeight, InSideCrushing, InUndivided, InWidth};
-ghost use Rattle.sp64.specs.Joint.{JointRanges, layout_holds, dowel_bending, least_term, dowel_capacity, dowel_count, joint_count, joint_length_holds};
+ghost use Rattle.rounding.specs.Range.{Value};
+ghost use Rattle.sp64.specs.Ranges.{InConditionRoot, InCount, InCrushing, InCrushingCapacity, InDowelBending, InDowelBendingCapacity, InDowelCapacity, InForce, InHeight, InWidth};
+ghost use Rattle.sp64.specs.Joint.{JointRanges, layout_holds, dowel_bending, condition_root, crushing_capacity, dowel_bending_capacity, dowel_capacity, dowel_count, joint_count, joint_length_holds};
 
 use sp64::joint::Joint;
 use strength::design::KnownMaterial;
@@ -14,6 +14,23 @@ fn dowel_count(n: u64, t: u64) -> u64
     ensures { Value InCount (dowel_count n t) result }
 {
     rounding::round_up(1000 * n, 2 * t)
+}
+
+// s, the whole root of the condition factors.
+#[tactic(auto, using(sp64::proofs::RootMeaning::condition_root_in))]
+fn condition_root(m: KnownMaterial) -> u64
+    ensures { Value InConditionRoot (condition_root m.material) result }
+{
+    rounding::whole_root(m.undivided_product(100_000))
+}
+
+// What a crushing term allows, in mN.
+#[tactic(auto, using(sp64::proofs::JointLaws::crushing_capacity_in))]
+fn crushing_capacity(term: u64, m: KnownMaterial) -> u64
+    requires { InCrushing term }
+    ensures { Value InCrushingCapacity (crushing_capacity term m.material) result }
+{
+    m.undivided_product(term) / 1_000_000
 }
 
 // A joint in its ranges; a struct of its own, as `KnownMaterial` (`strength`) says.
@@ -33,17 +50,9 @@ impl KnownJoint {
         (7 * j.across + 5) * j.diameter <= 2 * u64::from(h)
     }
 
-    // A term of g, in hundredths of N: crushing of the core or of a side piece, by its coefficient and its thickness.
-    fn crushing(self, coefficient: u64, thickness: u64) -> u64
-        requires { In 100 5000 coefficient × In 10 300 thickness }
-        ensures { Value InSideCrushing (coefficient * thickness * self.joint.diameter) result }
-    {
-        coefficient * thickness * self.joint.diameter
-    }
-
-    // A term of g: bending of the dowel.
+    // The term of the dowel's bending, in hundredths of N.
     fn dowel_bending(self) -> u64
-        ensures { Value InUndivided (dowel_bending self.joint) result }
+        ensures { Value InDowelBending (dowel_bending self.joint) result }
     {
         let j = self.joint;
         let d2 = j.diameter * j.diameter;
@@ -51,24 +60,23 @@ impl KnownJoint {
         (j.kb * d2 + j.ke * a2).min(j.km * d2)
     }
 
-    // g
-    fn least_term(self, b: u16) -> u64
-        requires { InWidth b }
-        ensures { Value InUndivided (least_term b self.joint) result }
+    // What bending of the dowel allows, in mN.
+    fn dowel_bending_capacity(self, m: KnownMaterial) -> u64
+        ensures { Value InDowelBendingCapacity (dowel_bending_capacity (dowel_bending self.joint) m.material) result }
     {
-        let j = self.joint;
-        let core = self.crushing(j.kc, u64::from(b));
-        let side = self.crushing(j.ka, j.side);
-        core.min(side.min(self.dowel_bending()))
+        self.dowel_bending() * condition_root(m) / 100_000
     }
 
     // T, in mN.
-    #[tactic(auto, using(sp64::proofs::JointLaws::capacity_at_once, sp64::proofs::JointLaws::capacity_in))]
+    #[tactic(auto, using(sp64::proofs::JointLaws::core_crushing_in, sp64::proofs::JointLaws::side_crushing_in, sp64::proofs::JointLaws::capacity_in))]
     fn dowel_capacity(self, b: u16, m: KnownMaterial) -> u64
         requires { InWidth b }
         ensures { Value InDowelCapacity (dowel_capacity b self.joint m.material) result }
     {
-        m.undivided_product(self.least_term(b)) / 1_000_000
+        let j = self.joint;
+        let core = crushing_capacity(j.kc * u64::from(b) * j.diameter, m);
+        let side = crushing_capacity(j.ka * j.side * j.diameter, m);
+        core.min(side.min(self.dowel_bending_capacity(m)))
     }
 
     // The dowels that the axial force n needs.

@@ -25,7 +25,7 @@ use Rattle.member.specs.declared.check.StrengthCheck.TheVariants.{Bending as ben
 use Rattle.member.specs.declared.kind.Kind.TheVariants.{Bending}
 use Rattle.member.specs.declared.member.Member.{Member}
 use Rattle.member.proofs.DemandLaws.{strength_high}
-use Rattle.member.proofs.FactorEdges.{past_it}
+use Rattle.rounding.proofs.Numerals.{past_it}
 use Rattle.member.proofs.NothingEmpty.{Real, ProperAt, times_real, nothing_empty_at}
 use Rattle.worked.specs.Cases.{fail}
 use Rattle.floorrules.specs.BeamRow.{beam_row}

@@ -58,7 +58,7 @@ pub record HoldsBeamVerdict (bytes : List ℕ) (v : BeamVerdict) : Type 0 where
 -- the numbers of a verdict are small enough that a float holds each
 pub record SmallNumbers (v : BeamVerdict) : Type 0 where
   pub utilisation : v.verdict.utilisation ≤ 9999999
-  pub count : v.verdict.count ≤ 6988121
+  pub count : v.verdict.count ≤ 4192873
   pub check : v.verdict.check ≤ 11
   pub regime : v.regime ≤ 3
   pub moment : v.moment ≤ 5000000000

@@ -1,18 +1,20 @@
 -- The factor of demand 3 is no more than 1.005: for every check that it is used for, an accepted row on which a fail is refuted, and whose check no longer holds
 -- with the forces times 1.006; and a count that is one too many is refuted.
 -- Assumes nothing.
-use Prim.Native.Nat.{ℕ, ◌≤◌}
+use Prim.Native.Nat.{ℕ, ◌≤◌, ◌<◌}
 use native.Mathlib.Omega.{arith}
-use mathlib.Core.Path.{◌≡◌, refl, sym, ◌∙◌}
+use mathlib.Core.Path.{◌≡◌, refl}
 use mathlib.Core.Logic.{inl, inr}
-use mathlib.Core.Bool.{Bool, true, false, true≢false}
-use borrow.Author.Tests.{le-leb}
-use lib.Dec.{leb, lit<, lit≤}
+use mathlib.Core.Bool.{Bool, true, false}
+use lib.Dec.{lit<, lit≤}
 use lib.ListN.{length}
-use Rattle.rounding.specs.Fraction.{whole, scaled}
+use Rattle.rounding.proofs.Numerals.{past_it}
+use Rattle.rounding.specs.Fraction.{Fraction, whole, scaled}
 use Rattle.cells.specs.Lowest.{lowest}
 use Rattle.cells.specs.Refusal.{gives}
 use Rattle.cells.specs.Row.{cell_count}
+use Rattle.sp64.proofs.CarryLaws.{fewer_fail}
+use Rattle.sp64.specs.Joint.{dowel_bending, exact_dowel_bending²}
 use Rattle.member.specs.Acceptance.{accept_kind, accept}
 use Rattle.member.specs.Checks.{Check, yes_no, strength, Has, layout, slenderness, joint_length, net_tension, side_pieces, bending, shear, buckling, compression_bending, tension_bending}
 use Rattle.member.specs.Demand3.{demand_factor, LayoutOrSlenderness, CountFor, Demand3}
@@ -24,10 +26,6 @@ use Rattle.member.specs.declared.member.Member.{Member}
 use Rattle.member.proofs.DemandLaws.{strength_high}
 use Rattle.member.proofs.DemandRefutes.{says}
 
--- a comparison of numbers that fails
-pub past_it : (a b : ℕ) → leb a b ≡ false → a ≤ b → ⊥
-past_it a b e le = true≢false (sym (le-leb a b le) ∙ e)
-
 -- Check 4, and the count.
 abbrev joint : Member
 joint = member_of Tension true (values_of joint_edge)
@@ -36,23 +34,30 @@ pub joint_edge_accepted : (accept joint_edge ≡ gives joint) × (length joint_e
 unfolding accept_kind lowest
 joint_edge_accepted = (refl, refl)
 
--- 24 dowels are the least for N times the factor of check 4
-count_joint : CountFor joint (scaled (demand_factor (yes_no joint_length)) (whole 97467)) 24
-count_joint = record { holds = record { core = lit≤ tt; side = lit≤ tt; bending = lit≤ tt }; least = λ j s. omega (arith, s.bending) }
+-- 21 dowels are the least for N times the factor of check 4
+abbrev bending² : Fraction
+bending² = exact_dowel_bending² (dowel_bending joint.joint) joint.material
+
+abbrev scaled_force : Fraction
+scaled_force = scaled (demand_factor (yes_no joint_length)) (whole 104977)
+
+count_joint : CountFor joint scaled_force 21
+count_joint = record { holds = record { core = lit≤ tt; side = lit≤ tt; bending = lit≤ tt }; least = λ j s. fewer_fail scaled_force bending² 20 j (past_it _ _ refl) s.bending }
 
 pub fail_4 : (utilisation count : ℕ) → Demand3 joint (says false 4 utilisation count) demand_factor → ⊥
 fail_4 u n d =
     d.fail (yes_no joint_length) (record { of_kind = inr (inr (inr (inl refl))); kept = refl }) (λ low. absurd (omega arith)) (record { fails = refl; names = refl })
     (record {
-      count = 24;
+      count = 21;
       least_count = count_joint;
-      columns = 8;
+      columns = 7;
       least_columns = record { holds = lit≤ tt; least = λ n h. omega (arith, h) };
       fits = lit≤ tt;
     })
 
 pub past_4 : Holds joint (times 1006 (forces_of joint)) (yes_no joint_length) → ⊥
-past_4 h = omega (arith, h.least_count.holds.bending, h.least_columns.holds, h.fits)
+past_4 h =
+    let count : 21 < h.count = fewer_fail (times 1006 (forces_of joint)).N bending² 21 h.count (past_it _ _ refl) h.least_count.holds.bending in omega (arith, count, h.least_columns.holds, h.fits)
 
 -- it keeps layout and slenderness
 kept : (c : Check) → LayoutOrSlenderness c → Has joint c → Holds joint (forces_of joint) c
@@ -62,8 +67,8 @@ kept (yes_no (slenderness across_width)) low has = lit≤ tt
 kept (yes_no joint_length) low has = absurd (omega arith)
 kept (strength c) low has = absurd (omega (arith, strength_high c))
 
-pub count_25 : (passes : Bool) (check utilisation : ℕ) → Demand3 joint (says passes check utilisation 25) demand_factor → ⊥
-count_25 p c u d = let le : 25 ≤ 24 = d.count_below refl kept 24 count_joint in absurd (omega arith)
+pub count_22 : (passes : Bool) (check utilisation : ℕ) → Demand3 joint (says passes check utilisation 22) demand_factor → ⊥
+count_22 p c u d = let le : 22 ≤ 21 = d.count_below refl kept 21 count_joint in absurd (omega arith)
 
 -- Checks 5 and 6.
 abbrev tension_member : Member

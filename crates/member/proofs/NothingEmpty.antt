@@ -13,7 +13,7 @@ use Rattle.cells.specs.Row.{cell_count, Cell}
 use Rattle.sp64.specs.Buckling.{stocky, exact_slender_phi, exact_buckling_phi, exact_buckling_capacity, exact_euler_capacity}
 use Rattle.sp64.specs.Capacity.{exact_net_tension_capacity, exact_side_piece_capacity, exact_shear_capacity}
 use Rattle.sp64.specs.Combined.{exact_axial_share, exact_second_order_moment}
-use Rattle.sp64.specs.Joint.{core_crushing, side_crushing, dowel_bending, exact_term}
+use Rattle.sp64.specs.Joint.{core_crushing, side_crushing, dowel_bending, exact_crushing_capacity, exact_dowel_bending²}
 use Rattle.sp64.specs.Strength.{exact_strength}
 use Rattle.sp64.specs.declared.tables.Stress.{Stress}
 use Rattle.sp64.specs.declared.tables.Stress.TheVariants.{Compression as compressionStress, Tension as tensionStress, Shear as shearStress}
@@ -99,11 +99,11 @@ ProperAt m f compression_bending =
 ProperAt m f tension_bending =
     ProperCombined f.N (exact_nrof tensionStress m) f.M (exact_mrof m)
 
--- the terms of a dowel, and the dowels of a column, by which the count is divided
+-- the terms of a dowel, that of bending by its square, and the dowels of a column, by which the count is divided
 pub record ProperJoint (m : Member) : Type 0 where
-  pub core : Proper (exact_term (core_crushing m.width m.joint) m.material)
-  pub side : Proper (exact_term (side_crushing m.joint) m.material)
-  pub bending : Proper (exact_term (dowel_bending m.joint) m.material)
+  pub core : Proper (exact_crushing_capacity (core_crushing m.width m.joint) m.material)
+  pub side : Proper (exact_crushing_capacity (side_crushing m.joint) m.material)
+  pub bending : Proper (exact_dowel_bending² (dowel_bending m.joint) m.material)
   pub across : 0 < m.joint.across
 
 -- check 11 from its parts

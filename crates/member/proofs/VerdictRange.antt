@@ -1,4 +1,4 @@
--- How great the numbers of a verdict on an accepted row can be: a check from 1 to 11, a utilisation of at most 9,999,999, a count of at most 6,988,121.
+-- How great the numbers of a verdict on an accepted row can be: a check from 1 to 11, a utilisation of at most 9,999,999, a count of at most 4,192,873.
 -- Assumes nothing.
 use Prim.Native.Nat.{ℕ, ◌≤◌}
 use native.Mathlib.Nat.{min-le_left, le_refl}
@@ -9,6 +9,7 @@ use mathlib.Core.Bool.{Bool, true, false, cond}
 use mathlib.Core.List.{List}
 use lib.Dec.{leb, lit≤}
 use lib.ListN.{length}
+use Rattle.rounding.specs.Greatest.{by_digits}
 use Rattle.rounding.specs.Range.{In}
 use Rattle.cells.specs.Greatest.{greatest}
 use Rattle.cells.specs.Lowest.{lowest}
@@ -34,7 +35,7 @@ use Rattle.member.proofs.VerdictLaws.{governs, VerdictOutcome, verdict_outcome}
 pub record VerdictRange (v : Verdict) : Type 0 where
   pub check : In 1 11 v.check
   pub utilisation : v.utilisation ≤ 9999999
-  pub count : v.count ≤ 6988121
+  pub count : v.count ≤ 4192873
 
 number_in : (c : Check) → In 1 11 (check_number c)
 number_in (yes_no layout) = omega arith
@@ -71,14 +72,14 @@ module _ (m : Member) where
   utilisation_most tension_bending = min-le_left 9999999 _
 
   -- the count, by whether the row has a joint
-  count_most : RangesOf m.kind m → count_of m ≤ 6988121
+  count_most : RangesOf m.kind m → count_of m ≤ 4192873
   count_most ranges = by m.jointed refl
     where
-      by : (t : Bool) → m.jointed ≡ t → count_of m ≤ 6988121
+      by : (t : Bool) → m.jointed ≡ t → count_of m ≤ 4192873
       by true e = let j = joint_known m ranges e in rw e (count_in j.force j.sized.section.width j.joint j.sized.material).high
       by false e = rw e (lit≤ tt)
 
-  fail_count_most : RangesOf m.kind m → (c : YesNoCheck) → count_on_fail m c ≤ 6988121
+  fail_count_most : RangesOf m.kind m → (c : YesNoCheck) → count_on_fail m c ≤ 4192873
   fail_count_most ranges layout = lit≤ tt
   fail_count_most ranges (slenderness across) = lit≤ tt
   fail_count_most ranges joint_length = count_most ranges
@@ -97,8 +98,8 @@ pub accepted_verdict_range : (cells : List Cell) (m : Member) → length cells �
 accepted_verdict_range cells m whole given = verdict_range m (accept_ranges cells m whole given)
 
 -- and the greatest count and utilisation are reached, by whole rows
-pub most_dowels_lem : (check_row most_dowels ≡ gives (record { passes = false; check = 4; utilisation = 0; count = 6988121 })) × (length most_dowels ≡ cell_count)
-unfolding accept_kind lowest judge_by greatest
+pub most_dowels_lem : (check_row most_dowels ≡ gives (record { passes = false; check = 4; utilisation = 0; count = 4192873 })) × (length most_dowels ≡ cell_count)
+unfolding accept_kind lowest judge_by greatest by_digits
 most_dowels_lem = (refl, refl)
 
 pub most_used_lem : (check_row most_used ≡ gives (record { passes = false; check = 7; utilisation = 9999999; count = 0 })) × (length most_used ≡ cell_count)

@@ -5,9 +5,9 @@ use Rattle.std.specs.Prelude.{List, [], ◌∷◌, Some}
 use Rattle.cells.specs.Row.{cell_count, blanks, with_cell, fill_from, Cell}
 use Rattle.member.specs.WorkedRows.{row_a, row_e}
 
--- check 4 and the count: row E with another N and a length of 756; 24 dowels in 8 columns for 1.005 × N, 25 in 9 for 1.006 × N
+-- check 4 and the count: row E with another N and a length of 672; 21 dowels in 7 columns for 1.005 × N, 22 in 8 for 1.006 × N
 abbrev pub joint_edge : List Cell
-joint_edge = with_cell 8 (Some 97467) (with_cell 17 (Some 756) row_e)
+joint_edge = with_cell 8 (Some 104977) (with_cell 17 (Some 672) row_e)
 
 -- checks 5 and 6, whose capacities are equal here: row E with another N
 abbrev pub tension_edge : List Cell

@@ -1,4 +1,4 @@
--- The worked rows A to H of document 01, by cell number; rows of kind 1 without a joint and with half a one, and of kind 5, which A to H lack; and a row of kind 4 on the edge of demand 3.
+-- The worked rows A to H of document 01, by cell number, E also at its shortest; rows of kind 1 without a joint and with half a one, and of kind 5, which A to H lack; and a row of kind 4 on the edge of demand 3.
 -- Assumes nothing.
 use Rattle.std.specs.Prelude.{List, [], ◌∷◌, None, Some}
 use Rattle.cells.specs.Row.{cell_count, blanks, with_cell, fill_from, Cell}
@@ -27,9 +27,13 @@ row_without_joint = fill_from 1 (1 ∷ 2 ∷ 4 ∷ 12 ∷ 1000 ∷ 100 ∷ 200 �
 abbrev pub row_e : List Cell
 row_e = fill_from 14 (50 ∷ 12 ∷ 3 ∷ 840 ∷ 500 ∷ 800 ∷ 1800 ∷ 20 ∷ 2500 ∷ []) row_without_joint
 
--- row F: E with 839
+-- row E with 672, the shortest length that holds the joint
+abbrev pub row_e_shortest : List Cell
+row_e_shortest = with_cell 17 (Some 672) row_e
+
+-- row F: E with 671
 abbrev pub row_f : List Cell
-row_f = with_cell 17 (Some 839) row_e
+row_f = with_cell 17 (Some 671) row_e
 
 -- row G: E with d 16
 abbrev pub row_g : List Cell

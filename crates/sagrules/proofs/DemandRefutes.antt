@@ -13,7 +13,7 @@ use Rattle.cells.specs.Refusal.{gives}
 use Rattle.cells.specs.Row.{Cell}
 use Rattle.rounding.specs.Fraction.{whole, scaled}
 use Rattle.member.specs.Acceptance.{accept_kind}
-use Rattle.member.proofs.FactorEdges.{past_it}
+use Rattle.rounding.proofs.Numerals.{past_it}
 use Rattle.sagrules.specs.Demand.{sag_factor, sag_kept_from, SagDemand, KeepsSagDemand}
 use Rattle.sagrules.specs.EdgeSags.{rounding_row, rounding_beam, rounding_sag, close_sag}
 use Rattle.sagrules.specs.Sag.{sag_in_range, SagHolds}

@@ -11,6 +11,7 @@ use lib.Dec.{lit<, lit≤}
 use Rattle.rounding.specs.Fraction.{Fraction, whole, scaled, ◌⊘◌, ◌⊕◌, ◌⊖◌, ◌≼◌, ◌≺◌}
 use Rattle.rounding.proofs.Ranges.{in_lit, in_mul, in_wide}
 use Rattle.rounding.proofs.Near.{Near, near_pos}
+use Rattle.rounding.proofs.NearRoot.{near_root_pos}
 use Rattle.sp64.specs.declared.tables.Stress.{Stress}
 use Rattle.sp64.specs.declared.tables.Stress.TheVariants.{Bending, Compression, Tension, Shear}
 use Rattle.sp64.specs.declared.strength.Material.{Material}
@@ -19,12 +20,12 @@ use Rattle.sp64.specs.declared.strut.Strut.{Strut}
 use Rattle.sp64.specs.Ranges.{InHeight, InWidth}
 use Rattle.sp64.specs.Strength.{MaterialRanges, exact_strength}
 use Rattle.sp64.specs.Slenderness.{L², s²}
-use Rattle.sp64.specs.Joint.{JointRanges, Layout, core_crushing, side_crushing, dowel_bending, exact_term}
+use Rattle.sp64.specs.Joint.{JointRanges, Layout, core_crushing, side_crushing, dowel_bending, exact_crushing_capacity, exact_dowel_bending²}
 use Rattle.sp64.specs.Capacity.{Section, exact_net_tension_capacity, exact_side_piece_capacity, exact_shear_capacity, exact_nr, exact_mr}
 use Rattle.sp64.specs.Buckling.{stocky, exact_slender_phi, exact_buckling_phi, exact_buckling_capacity, exact_euler_capacity}
 use Rattle.sp64.specs.Combined.{exact_axial_share, exact_second_order_moment}
 use Rattle.sp64.proofs.StrengthLaws.{strength_near}
-use Rattle.sp64.proofs.JointLaws.{core_crushing_near, side_crushing_near, dowel_bending_near}
+use Rattle.sp64.proofs.JointLaws.{core_crushing_in, side_crushing_in, dowel_bending_in, crushing_near, dowel_bending_near}
 use Rattle.sp64.proofs.PhiLaws.{Steady, slender_near, phi_near}
 use Rattle.sp64.proofs.CapacityLaws.{net_height_in, tension_near, whole_tension_near, compression_near, bending_near, shear_near, buckling_near}
 use Rattle.sp64.proofs.Checks.{phi_loss}
@@ -59,14 +60,16 @@ module _ {limit : ℕ} {strut : Strut} (steady : Steady limit strut) where
 
 -- a dowel's terms
 module _ {b : ℕ} {j : Joint} {mat : Material} (width : InWidth b) (jr : JointRanges j) (known : MaterialRanges mat) where
-  pub core_crushing_proper : Proper (exact_term (core_crushing b j) mat)
-  core_crushing_proper = proper (lit< tt) (core_crushing_near jr known width)
+  pub core_crushing_proper : Proper (exact_crushing_capacity (core_crushing b j) mat)
+  core_crushing_proper = proper (lit< tt) (crushing_near known (core_crushing_in width jr))
 
-  pub side_crushing_proper : Proper (exact_term (side_crushing j) mat)
-  side_crushing_proper = proper (lit< tt) (side_crushing_near jr known)
+  pub side_crushing_proper : Proper (exact_crushing_capacity (side_crushing j) mat)
+  side_crushing_proper = proper (lit< tt) (crushing_near known (side_crushing_in jr))
 
-  pub dowel_bending_proper : Proper (exact_term (dowel_bending j) mat)
-  dowel_bending_proper = proper (lit< tt) (dowel_bending_near jr known)
+  -- bending, by its square
+  pub dowel_bending_proper : Proper (exact_dowel_bending² (dowel_bending j) mat)
+  dowel_bending_proper =
+      let near = dowel_bending_near known (dowel_bending_in jr) in record { real = near.real; some = near_root_pos (lit< tt) near }
 
 module _ {mat : Material} (known : MaterialRanges mat) where
   pub strength_proper : (stress : Stress) → Proper (exact_strength stress mat)

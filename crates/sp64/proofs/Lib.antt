@@ -4,9 +4,11 @@ pub mod StrengthMeaning
 pub mod PhiLaws
 pub mod CapacityLaws
 pub mod CombinedLaws
-pub mod TermLaws
+pub mod RootMeaning
+pub mod CarryLaws
 pub mod JointLaws
 pub mod JointMeaning
+pub mod CountWitness
 pub mod YesNoChecks
 pub mod Checks
 pub mod Denominators

@@ -68,17 +68,21 @@ InStrength stress = In (least_strength stress) (greatest_strength stress)
 abbrev pub InAxialStrength : ℕ → Type 0
 InAxialStrength = In 4770 35200
 
--- crushing of the core, in hundredths of N
-abbrev pub InCoreCrushing : ℕ → Type 0
-InCoreCrushing = In 12000 60000000
+-- crushing of the core or of a side piece, in hundredths of N
+abbrev pub InCrushing : ℕ → Type 0
+InCrushing = In 6000 60000000
 
--- crushing of a side piece, in hundredths of N
-abbrev pub InSideCrushing : ℕ → Type 0
-InSideCrushing = In 6000 60000000
+-- bending of a dowel, in hundredths of N
+abbrev pub InDowelBending : ℕ → Type 0
+InDowelBending = In 3600 8000000
 
--- a strength of Table 7 in kPa, or g in hundredths of N
+-- what is multiplied by t × w × o: a strength of Table 7 in kPa, a crushing term in hundredths of N, and the 100,000 below the root
 abbrev pub InUndivided : ℕ → Type 0
-InUndivided = In 3600 8000000
+InUndivided = In 3900 60000000
+
+-- request 5: s, the root of t × w × o × 100,000
+abbrev pub InConditionRoot : ℕ → Type 0
+InConditionRoot = In 445813 1048808
 
 -- NR, in N
 abbrev pub InNR : ℕ → Type 0
@@ -108,10 +112,18 @@ InSlenderPhi = In 250 156250000000
 abbrev pub InBucklingCapacity : ℕ → Type 0
 InBucklingCapacity = In 1 4125000000000
 
+-- a crushing term with the condition factors, in mN
+abbrev pub InCrushingCapacity : ℕ → Type 0
+InCrushingCapacity = In 11925 660000000
+
+-- request 5: the bending term with the root, in mN
+abbrev pub InDowelBendingCapacity : ℕ → Type 0
+InDowelBendingCapacity = In 16049 83904640
+
 -- T, in mN
 abbrev pub InDowelCapacity : ℕ → Type 0
-InDowelCapacity = In 7155 88000000
+InDowelCapacity = In 11925 83904640
 
 -- the dowel count
 abbrev pub InCount : ℕ → Type 0
-InCount = In 1 6988121
+InCount = In 1 4192873

@@ -32,10 +32,10 @@ pub struct KnownMaterial {
 }
 
 impl KnownMaterial {
-    // value × t × w × o, where the value is a strength of Table 7 or a dowel's g.
+    // value × t × w × o, where the value is a strength of Table 7, a crushing term of a dowel, or 100,000.
     pub fn undivided_product(self, value: u64) -> u64
         requires { InUndivided value }
-        ensures { Value (In 7155000000 88000000000000) (undivided value self.material) result }
+        ensures { Value (In 7751250000 660000000000000) (undivided value self.material) result }
     {
         let m = self.material;
         value * m.duration * m.moisture * m.office

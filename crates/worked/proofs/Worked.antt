@@ -6,6 +6,7 @@ use lib.Dec.{T, ltb, lit<}
 use Rattle.cells.specs.Greatest.{greatest}
 use Rattle.cells.specs.Lowest.{lowest}
 use Rattle.rounding.specs.Fraction.{Fraction, SameValue}
+use Rattle.rounding.specs.Greatest.{by_digits}
 use Rattle.packed.proofs.Sizes.{blank_row_lem}
 use Rattle.member.specs.Acceptance.{accept_kind}
 use Rattle.member.specs.Verdict.{judge_by}
@@ -23,7 +24,7 @@ same real written cross = record { real = lit< real; written = lit< written; cro
 
 -- every case of the table, by computing; row H by the law of packing
 pub worked : All table
-unfolding lowest accept_kind greatest judge_by table
+unfolding lowest accept_kind greatest judge_by by_digits table
 worked =
     -- A
     (refl, refl) and
@@ -58,8 +59,18 @@ worked =
     refl and
     same tt tt refl and
     refl and
+    same tt tt refl and
+    refl and
     refl and
     same tt tt refl and
+    refl and
+    same tt tt refl and
+    refl and
+    refl and
+    refl and
+    same tt tt refl and
+    -- E, shortest
+    (refl, refl) and
     -- F
     (refl, refl) and
     refl and

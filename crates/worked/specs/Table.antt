@@ -1,4 +1,4 @@
--- The worked rows A to H of document 01: the verdict on each, the figures on the way to it, and the exact values that these round.
+-- The worked rows A to H of document 01, E also at its shortest: the verdict on each, the figures on the way to it, and the exact values that these round.
 -- Assumes nothing.
 use Rattle.std.specs.Prelude.{List, [], ◌∷◌}
 use Rattle.rounding.specs.Fraction.{fraction, whole, ◌⊕◌}
@@ -7,10 +7,10 @@ use Rattle.member.specs.declared.check.Across.TheVariants.{Height as across_heig
 use Rattle.member.specs.declared.check.StrengthCheck.TheVariants.{Shear as shear}
 use Rattle.member.specs.Member.{count_of, NRof, exact_nrof, MRof, exact_mrof}
 use Rattle.worked.specs.Cases.{Case, verdict, figure, exact, packs, pass, fail}
-use Rattle.member.specs.WorkedRows.{row_a, row_b, row_c, row_d, row_e, row_f, row_g, row_h}
-use Rattle.worked.specs.Values.{strength_in, exact_strength_in, phi, exact_phi, dowel_term, dowel_resistance, exact_dowel_resistance, columns_of, utilisation_in, bending_ratio, buckling_ratio, net_tension_ratio}
+use Rattle.member.specs.WorkedRows.{row_a, row_b, row_c, row_d, row_e, row_e_shortest, row_f, row_g, row_h}
+use Rattle.worked.specs.Values.{strength_in, exact_strength_in, phi, exact_phi, condition_root_of, core_resistance, exact_core_resistance, side_resistance, exact_side_resistance, bending_term, bending_resistance, exact_bending_resistance², dowel_resistance, exact_dowel_resistance², columns_of, joint_length_of, utilisation_in, bending_ratio, buckling_ratio, net_tension_ratio}
 
--- rows A to H
+-- rows A to H, after E the same at its shortest
 unfoldable pub table : List Case
 table =
     -- A: bending governs; nothing is lost but in the utilisation
@@ -40,17 +40,27 @@ table =
     figure row_d (phi across_width) 612078 ∷
     exact row_d (exact_phi across_width) (whole 612078 ⊕ fraction 3521602 4084441) ∷
     -- E: checks 5 and 6 are equal, and the lower number is named
-    verdict row_e (pass 5 342176 25) ∷
+    verdict row_e (pass 5 342176 20) ∷
     exact row_e (exact_strength_in Tension) (whole 17820) ∷
-    figure row_e dowel_term 309200 ∷
-    figure row_e dowel_resistance 2040720 ∷
-    exact row_e exact_dowel_resistance (whole 2040720) ∷
-    figure row_e count_of 25 ∷
-    figure row_e columns_of 9 ∷
+    figure row_e condition_root_of 812403 ∷
+    figure row_e core_resistance 3960000 ∷
+    exact row_e exact_core_resistance (whole 3960000) ∷
+    figure row_e side_resistance 3168000 ∷
+    exact row_e exact_side_resistance (whole 3168000) ∷
+    figure row_e bending_term 309200 ∷
+    figure row_e bending_resistance 2511950 ∷
+    exact row_e exact_bending_resistance² (whole 6309906240000) ∷
+    figure row_e dowel_resistance 2511950 ∷
+    exact row_e exact_dowel_resistance² (whole 6309906240000) ∷
+    figure row_e count_of 20 ∷
+    figure row_e columns_of 7 ∷
+    figure row_e joint_length_of 672 ∷
     exact row_e net_tension_ratio (fraction 12500 36531) ∷
+    -- E with the shortest joint length that holds it
+    verdict row_e_shortest (pass 5 342176 20) ∷
     -- F: the joint is a millimetre too long
-    verdict row_f (fail 4 0 25) ∷
-    figure row_f count_of 25 ∷
+    verdict row_f (fail 4 0 20) ∷
+    figure row_f count_of 20 ∷
     -- G: too little height for three dowels
     verdict row_g (fail 1 0 0) ∷
     -- H: packed, a bit for each cell and zeros to fill the third byte

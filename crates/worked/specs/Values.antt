@@ -4,7 +4,7 @@ use Rattle.std.specs.Prelude.{ℕ}
 use Rattle.rounding.specs.Fraction.{Fraction, ◌⊘◌}
 use Rattle.sp64.specs.Buckling.{buckling_phi, exact_buckling_phi, exact_buckling_capacity}
 use Rattle.sp64.specs.Capacity.{exact_net_tension_capacity}
-use Rattle.sp64.specs.Joint.{least_term, dowel_capacity, columns, exact_term}
+use Rattle.sp64.specs.Joint.{core_crushing, side_crushing, dowel_bending, condition_root, crushing_capacity, dowel_bending_capacity, dowel_capacity, columns, length_of, exact_crushing_capacity, exact_dowel_bending², exact_dowel_capacity²}
 use Rattle.sp64.specs.Strength.{design_strength, exact_strength}
 use Rattle.sp64.specs.declared.tables.Stress.{Stress}
 use Rattle.sp64.specs.declared.tables.Stress.TheVariants.{Compression, Tension}
@@ -32,21 +32,53 @@ phi across m = buckling_phi (strut_of m across)
 abbrev pub exact_phi : Across → Member → Fraction
 exact_phi across m = exact_buckling_phi (strut_of m across)
 
--- g, the least of a dowel's three terms; nothing in it is rounded
-abbrev pub dowel_term : Member → ℕ
-dowel_term m = least_term m.width m.joint
+-- request 5: s, the root of the condition factors
+abbrev pub condition_root_of : Member → ℕ
+condition_root_of m = condition_root m.material
+
+-- what crushing of the core allows a dowel in one shear plane
+abbrev pub core_resistance : Member → ℕ
+core_resistance m = crushing_capacity (core_crushing m.width m.joint) m.material
+
+-- the same, unrounded
+abbrev pub exact_core_resistance : Member → Fraction
+exact_core_resistance m = exact_crushing_capacity (core_crushing m.width m.joint) m.material
+
+-- what crushing of a side piece allows it
+abbrev pub side_resistance : Member → ℕ
+side_resistance m = crushing_capacity (side_crushing m.joint) m.material
+
+-- the same, unrounded
+abbrev pub exact_side_resistance : Member → Fraction
+exact_side_resistance m = exact_crushing_capacity (side_crushing m.joint) m.material
+
+-- the term of the dowel's bending; nothing in it is rounded
+abbrev pub bending_term : Member → ℕ
+bending_term m = dowel_bending m.joint
+
+-- what bending allows it
+abbrev pub bending_resistance : Member → ℕ
+bending_resistance m = dowel_bending_capacity (bending_term m) m.material
+
+-- its square, unrounded
+abbrev pub exact_bending_resistance² : Member → Fraction
+exact_bending_resistance² m = exact_dowel_bending² (bending_term m) m.material
 
 -- T, what a dowel carries in one shear plane
 abbrev pub dowel_resistance : Member → ℕ
 dowel_resistance m = dowel_capacity m.width m.joint m.material
 
--- T, unrounded
-abbrev pub exact_dowel_resistance : Member → Fraction
-exact_dowel_resistance m = exact_term (dowel_term m) m.material
+-- T², unrounded
+abbrev pub exact_dowel_resistance² : Member → Fraction
+exact_dowel_resistance² m = exact_dowel_capacity² m.width m.joint m.material
 
 -- the columns of the joint's dowels
 abbrev pub columns_of : Member → ℕ
 columns_of m = columns (count_of m) m.joint.across
+
+-- the length that the joint needs
+abbrev pub joint_length_of : Member → ℕ
+joint_length_of m = length_of m.joint.diameter (columns_of m)
 
 -- the utilisation of a strength check, also of one that does not govern
 abbrev pub utilisation_in : StrengthCheck → Member → ℕ
