@@ -1,5 +1,5 @@
 //! Demand 3: whatever rounding does, a pass is a pass of the unrounded rules, and a fail is one of them too once the
-//! forces grow a little. Written from document 01 alone, in exact fractions, as a witness of its own.
+//! forces grow a little. Written from document 01 and request 5 alone, in exact fractions, as a witness of its own.
 use crate::exact::Ratio;
 use lvl_addin::answer::Verdict;
 use lvl_addin::row::CELLS;
@@ -250,25 +250,34 @@ impl Unrounded<'_> {
         Ratio::new(table[grade - 1] * self.factors(), 10_000_000)
     }
 
-    /// T, in mN.
-    fn dowel_capacity(&self) -> Ratio {
+    /// What one dowel carries in one shear plane before a piece is crushed, in mN.
+    fn crushing_capacity(&self) -> Ratio {
         let (core, side, dowel) = (self.width(), self.side_piece(), self.dowel());
-        let [core_crushing, side_crushing, bending, bending_of_side, most_bending] =
-            [18, 19, 20, 21, 22].map(|number| self.cell(number));
-        let least = [
-            core_crushing * core * dowel,
-            side_crushing * side * dowel,
-            bending * dowel.pow(2) + bending_of_side * side.pow(2),
-            most_bending * dowel.pow(2),
-        ]
-        .into_iter()
-        .min()
-        .expect("four terms");
-        Ratio::new(least * self.factors(), 1_000_000)
+        let [core_crushing, side_crushing] = [18, 19].map(|number| self.cell(number));
+        let term = (core_crushing * core * dowel).min(side_crushing * side * dowel);
+        Ratio::new(term * self.factors(), 1_000_000)
     }
 
+    /// The square of what it carries before it bends: of term × √(t × w × o × 100,000) / 100,000, whose root is seldom
+    /// a fraction.
+    fn square_of_bending_capacity(&self) -> Ratio {
+        let (side, dowel) = (self.side_piece(), self.dowel());
+        let [bending, bending_of_side, most_bending] = [20, 21, 22].map(|number| self.cell(number));
+        let term = (bending * dowel.pow(2) + bending_of_side * side.pow(2))
+            .min(most_bending * dowel.pow(2));
+        Ratio::new(term, 100_000) * Ratio::new(term, 100_000) * (self.factors() * 100_000)
+    }
+
+    /// The least count that suffices against crushing and against bending. Against bending k dowels do where k² times
+    /// the square of a capacity is no less than that of the load: only k² is divided out, and no factor's root is taken.
+    ///
+    /// `ceil` and `root_up` panic on parts above 128 bits, and these fit: the greatest, the numerator of k², is at most
+    /// (1005 × 10^8 × 1000 × 100,000)², which is 1.01 × 10^38 of 3.40 × 10^38.
     fn least_count(&self) -> u128 {
-        (self.axial_force() * 1000 / (self.dowel_capacity() * 2)).ceil()
+        let in_each_plane = self.axial_force() * 1000 / 2;
+        let uncrushed = (in_each_plane / self.crushing_capacity()).ceil();
+        let square = in_each_plane * in_each_plane / self.square_of_bending_capacity();
+        uncrushed.max(square.root_up())
     }
 
     fn joint_length_holds(&self) -> bool {

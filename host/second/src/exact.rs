@@ -143,6 +143,13 @@ impl Ratio {
         });
         num.div_ceil(den)
     }
+
+    /// The least whole number whose square is no less.
+    pub fn root_up(self) -> u128 {
+        let square = self.ceil();
+        let root = square.isqrt();
+        root + u128::from(root * root < square)
+    }
 }
 
 impl From<u64> for Ratio {

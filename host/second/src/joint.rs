@@ -1,4 +1,4 @@
-//! The dowel joint: layout, dowels needed, length.
+//! The dowel joint: layout, dowels needed, length; the dowel's bending as request 5 has it.
 use crate::cells::{Joint, Member};
 use crate::rules::Rules;
 
@@ -12,18 +12,53 @@ pub fn holes(joint: &Joint) -> u64 {
     joint.across * joint.diameter
 }
 
-/// g: the least of crushing in the middle piece, crushing in the side piece and bending of the dowel.
-pub fn weakest_mode(width: u64, joint: &Joint) -> u64 {
-    let (a, d) = (joint.side_thickness, joint.diameter);
-    let middle = joint.kc * width * d;
-    let side = joint.ka * a * d;
-    let dowel = (joint.kb * d * d + joint.ke * a * a).min(joint.km * d * d);
-    middle.min(side).min(dowel)
+/// The term of crushing in the middle piece, in hundredths of N as every term.
+pub fn middle_term(width: u64, joint: &Joint) -> u64 {
+    joint.kc * width * joint.diameter
 }
 
-/// T: what one dowel carries in one shear plane, mN, rounded down.
-pub fn dowel_capacity(weakest_mode: u64, factor_product: u64) -> u64 {
-    weakest_mode * factor_product / 1_000_000
+/// The term of crushing in the side piece.
+pub fn side_term(joint: &Joint) -> u64 {
+    joint.ka * joint.side_thickness * joint.diameter
+}
+
+/// The term of the dowel's own bending, which the piece beside it helps up to a limit.
+pub fn dowel_term(joint: &Joint) -> u64 {
+    let (a, d) = (joint.side_thickness, joint.diameter);
+    (joint.kb * d * d + joint.ke * a * a).min(joint.km * d * d)
+}
+
+/// s: the square root of t × w × o in millionths, rounded down. Bending of the dowel takes it in place of the product.
+pub fn factor_root(factor_product: u64) -> u64 {
+    (100_000 * factor_product).isqrt()
+}
+
+/// What a term of crushing carries, mN, rounded down.
+pub fn crushing_capacity(term: u64, factor_product: u64) -> u64 {
+    term * factor_product / 1_000_000
+}
+
+/// What the term of the dowel's bending carries, mN, rounded down.
+pub fn dowel_bending_capacity(term: u64, factor_root: u64) -> u64 {
+    term * factor_root / 100_000
+}
+
+/// What one dowel carries in one shear plane before the middle piece is crushed, before the side piece is, and before
+/// it bends, mN.
+pub fn mode_capacities<R: Rules>(member: &Member, joint: &Joint) -> [u64; 3] {
+    let product = R::factor_product(&member.factors);
+    let root = R::factor_root(product);
+    [
+        R::crushing_capacity(R::middle_term(member.width, joint), product),
+        R::crushing_capacity(R::side_term(joint), product),
+        R::dowel_bending_capacity(R::dowel_term(joint), root),
+    ]
+}
+
+/// T: what one dowel carries in one shear plane, mN.
+pub fn dowel_capacity<R: Rules>(member: &Member, joint: &Joint) -> u64 {
+    let [middle, side, dowel] = R::mode_capacities(member, joint);
+    middle.min(side).min(dowel)
 }
 
 /// The dowels that carry the axial force in two shear planes each.
@@ -44,8 +79,6 @@ pub fn joint_length_holds(columns: u64, joint: &Joint) -> bool {
 /// The dowels of a member's joint, 0 without a joint.
 pub fn count<R: Rules>(member: &Member) -> u64 {
     member.joint.as_ref().map_or(0, |joint| {
-        let mode = R::weakest_mode(member.width, joint);
-        let capacity = R::dowel_capacity(mode, R::factor_product(&member.factors));
-        R::dowel_count(member.axial, capacity)
+        R::dowel_count(member.axial, R::dowel_capacity(member, joint))
     })
 }

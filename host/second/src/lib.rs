@@ -1,5 +1,5 @@
 //! A second implementation of the whole base, of the floor beam, of strengths with remainders and of the sag check,
-//! written from document 01 and the three requests alone. For tests: no host depends on it.
+//! written from document 01 and the requests alone. For tests: no host depends on it.
 //!
 //! The add-in is compared with it, row by row, beam by beam and sag by sag, and its speed is held to it. Every rule of
 //! document 01 is one method of [`Rules`], every rule of the floor-beam request one of [`FloorRules`], of the request

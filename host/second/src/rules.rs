@@ -138,14 +138,44 @@ pub trait Rules: Sized {
         joint::holes(joint)
     }
 
-    /// g.
-    fn weakest_mode(width: u64, joint: &Joint) -> u64 {
-        joint::weakest_mode(width, joint)
+    /// The term of crushing in the middle piece.
+    fn middle_term(width: u64, joint: &Joint) -> u64 {
+        joint::middle_term(width, joint)
+    }
+
+    /// The term of crushing in the side piece.
+    fn side_term(joint: &Joint) -> u64 {
+        joint::side_term(joint)
+    }
+
+    /// The term of the dowel's bending.
+    fn dowel_term(joint: &Joint) -> u64 {
+        joint::dowel_term(joint)
+    }
+
+    /// s.
+    fn factor_root(factor_product: u64) -> u64 {
+        joint::factor_root(factor_product)
+    }
+
+    /// What a term of crushing carries.
+    fn crushing_capacity(term: u64, factor_product: u64) -> u64 {
+        joint::crushing_capacity(term, factor_product)
+    }
+
+    /// What the term of the dowel's bending carries.
+    fn dowel_bending_capacity(term: u64, factor_root: u64) -> u64 {
+        joint::dowel_bending_capacity(term, factor_root)
+    }
+
+    /// What a dowel carries by each mode of failure: middle piece, side piece, dowel.
+    fn mode_capacities(member: &Member, joint: &Joint) -> [u64; 3] {
+        joint::mode_capacities::<Self>(member, joint)
     }
 
     /// T.
-    fn dowel_capacity(weakest_mode: u64, factor_product: u64) -> u64 {
-        joint::dowel_capacity(weakest_mode, factor_product)
+    fn dowel_capacity(member: &Member, joint: &Joint) -> u64 {
+        joint::dowel_capacity::<Self>(member, joint)
     }
 
     /// The count that an axial force needs.

@@ -27,6 +27,15 @@ const ROWS: u64 = 4_000_000;
 /// The least number of rows in a class of verdicts.
 const LEAST_IN_CLASS: u64 = 1000;
 
+/// Whether a joint's dowels bend before a piece is crushed, and whether bending has the least term. A product of factors
+/// below one takes more off crushing than off bending; one above, which regime 8 alone can give, adds more to it.
+type Mode = (bool, bool);
+
+const MODES: [Mode; 4] = [(false, false), (false, true), (true, false), (true, true)];
+
+/// The least number of joints of a mode; those where bending has the greater term and yet governs are few.
+const LEAST_OF_MODE: u64 = 100;
+
 /// The least number of rows, answers and buffers of each length.
 const LEAST_OF_LENGTH: u64 = 100;
 
@@ -83,6 +92,7 @@ struct Tally {
     rows: u64,
     judged: u64,
     classes: BTreeMap<Class, u64>,
+    modes: BTreeMap<Mode, u64>,
     refusals: BTreeMap<(Operation, Refusal), u64>,
     row_lengths: BTreeMap<usize, u64>,
     answer_lengths: AnswerLengths,
@@ -132,11 +142,26 @@ fn compare_check(case: &Case, cells: Result<Cells, Refusal>, salt: u64, tally: &
         verdict.passes,
     );
     *tally.classes.entry(class).or_default() += 1;
+    if let Some(mode) = mode(&cells) {
+        *tally.modes.entry(mode).or_default() += 1;
+    }
     for thousandths in [1005, 1003] {
         if let Err(why) = demand3::keeps(&cells, &verdict, thousandths) {
             panic!("demand 3 at {thousandths}: {why}, {cells:?}, {verdict:?}");
         }
     }
+}
+
+/// How the dowels of a judged row give way.
+fn mode(cells: &Cells) -> Option<Mode> {
+    let member = Paper::accept(cells).ok()?;
+    let joint = member.joint?;
+    let [middle, side, dowel] = Paper::mode_capacities(&member, &joint);
+    let crushing = Paper::middle_term(member.width, &joint).min(Paper::side_term(&joint));
+    Some((
+        dowel < middle.min(side),
+        Paper::dowel_term(&joint) < crushing,
+    ))
 }
 
 fn compare_pack(case: &Case, cells: Result<Cells, Refusal>, salt: u64, tally: &mut Tally) {
@@ -211,6 +236,10 @@ fn print(tally: &Tally) {
         let verdict = if passes { "pass" } else { "fail" };
         println!("{kind:>4}  {joint:>5}  {check:>5}  {verdict:>7}  {rows:>7}");
     }
+    println!("\ndowels bend  bending has the least term  joints");
+    for ((bends, least), joints) in &tally.modes {
+        println!("{bends:>11}  {least:>26}  {joints:>6}");
+    }
     println!("\noperation  refusal  cell: rows");
     let mut line = None;
     for (&(operation, refusal), rows) in &tally.refusals {
@@ -223,9 +252,10 @@ fn print(tally: &Tally) {
     println!();
 }
 
-/// Holds the classes and refusals that have occurred to those that can.
+/// Holds the classes, modes and refusals that have occurred to those that can.
 fn assert_classes(tally: &Tally) {
     assert_occurred("rows in class", &tally.classes, &CLASSES, LEAST_IN_CLASS);
+    assert_occurred("joints of mode", &tally.modes, &MODES, LEAST_OF_MODE);
     assert_occurred("rows with", &tally.refusals, &every_refusal(), 1);
 }
 

@@ -1,10 +1,14 @@
 //! Demand 3 as it keeps right verdicts and refutes wrong ones, in tables of rows, verdicts and reasons.
+#[path = "demand3/wrong_rules.rs"]
+mod wrong_rules;
+
 use lvl_addin::answer::Verdict;
 use lvl_addin::entry;
 use lvl_addin::row::CELLS;
 use lvl_second::cells::*;
 use lvl_second::demand3::keeps;
-use lvl_second::rows::worked::{a, b, e, with};
+use lvl_second::exact::Ratio;
+use lvl_second::rows::worked::{a, b, e, shortest_e, with};
 
 /// A verdict on a row, and what demand 3 says of it.
 struct Entry {
@@ -113,7 +117,7 @@ fn without_joint(mut cells: Cells) -> Cells {
 }
 
 fn f() -> Cells {
-    with(e(), JOINT_LENGTH, 839)
+    with(e(), JOINT_LENGTH, 671)
 }
 
 fn g() -> Cells {
@@ -139,8 +143,8 @@ fn worked_rows_are_accepted() {
         ("B", b(), pass(10, 315_122, 0)),
         ("C", with(b(), LENGTH_B, 2020), pass(10, 319_120, 0)),
         ("D", with(b(), LENGTH_B, 2021), pass(10, 317_141, 0)),
-        ("E", e(), pass(5, 342_176, 25)),
-        ("F", f(), fail(4, 0, 25)),
+        ("E", e(), pass(5, 342_176, 20)),
+        ("F", f(), fail(4, 0, 20)),
         ("G", g(), fail(1, 0, 0)),
     ];
     for (name, cells, verdict) in &rows {
@@ -157,9 +161,9 @@ fn a_fail_without_cause_is_refuted() {
         refuted("A", a(), fail(8, 492_733, 0), "a fail on check 8, which holds"),
         refuted("B", b(), fail(2, 0, 0), "a fail on check 2, which holds"),
         refuted("B", b(), fail(9, 1_000_001, 0), "a fail on check 9, which holds"),
-        refuted("E", e(), fail(1, 0, 25), "a fail on check 1, which holds"),
-        refuted("E", e(), fail(4, 0, 25), "a fail on check 4, which holds"),
-        refuted("E", e(), fail(6, 1_000_001, 25), "a fail on check 6, which holds"),
+        refuted("E", e(), fail(1, 0, 20), "a fail on check 1, which holds"),
+        refuted("E", e(), fail(4, 0, 20), "a fail on check 4, which holds"),
+        refuted("E", e(), fail(6, 1_000_001, 20), "a fail on check 6, which holds"),
         refuted("combined", combined(), fail(11, 9_999_999, 0), "a fail on check 11, which holds"),
         refuted("tie", tie(), fail(11, 9_999_999, 0), "a fail on check 11, which holds"),
     ]);
@@ -173,9 +177,9 @@ fn a_fail_on_a_check_that_the_row_lacks_is_refuted() {
     hold([
         lacks("A", a(), fail(9, 1_000_001, 0)),
         lacks("B", b(), fail(7, 1_000_001, 0)),
-        lacks("E", e(), fail(11, 1_000_001, 25)),
-        lacks("E", e(), fail(0, 1_000_001, 25)),
-        lacks("E", e(), fail(12, 1_000_001, 25)),
+        lacks("E", e(), fail(11, 1_000_001, 20)),
+        lacks("E", e(), fail(0, 1_000_001, 20)),
+        lacks("E", e(), fail(12, 1_000_001, 20)),
         lacks("tie", tie(), fail(9, 1_000_001, 0)),
         lacks("E without a joint", bare, fail(1, 0, 0)),
         lacks("E without a joint", bare, fail(4, 0, 0)),
@@ -188,8 +192,8 @@ fn a_fail_on_a_check_that_the_row_lacks_is_refuted() {
 #[rustfmt::skip]
 fn a_pass_that_is_none_is_refuted() {
     hold([
-        refuted("F", f(), pass(5, 342_176, 25), "check 4 fails unrounded"),
-        refuted("G", g(), pass(5, 342_176, 25), "check 1 is the first to fail"),
+        refuted("F", f(), pass(5, 342_176, 20), "check 4 fails unrounded"),
+        refuted("G", g(), pass(5, 342_176, 20), "check 1 is the first to fail"),
         refuted("A", with(a(), MOMENT, 28_957_501), pass(7, 1_000_000, 0), "check 7 fails unrounded"),
         refuted("A", with(a(), SHEAR, 40_591), pass(8, 1_000_000, 0), "check 8 fails unrounded"),
         refuted("B", with(b(), AXIAL, 158_670), pass(10, 1_000_000, 0), "check 10 fails unrounded"),
@@ -203,13 +207,63 @@ fn a_pass_that_is_none_is_refuted() {
 fn a_wrong_count_is_refuted() {
     let slender = with(b(), LENGTH_H, 7000);
     hold([
-        refuted("E", e(), pass(5, 342_176, 24), "24 dowels, where 25 to 25 are due"),
-        refuted("E", e(), pass(5, 342_176, 26), "26 dowels"),
+        refuted("E", e(), pass(5, 342_176, 19), "19 dowels, where 20 to 21 are due"),
+        // 1.005 × N takes 21, and 1.003 × N takes 20.
+        kept("E", e(), pass(5, 342_176, 21)).at(&[1005]),
+        refuted("E", e(), pass(5, 342_176, 21), "21 dowels, where 20 to 20 are due").at(&[1003]),
+        refuted("E", e(), pass(5, 342_176, 22), "22 dowels, where 20 to 21 are due"),
         refuted("E", e(), pass(5, 342_176, 0), "0 dowels"),
         refuted("F", f(), fail(4, 0, 0), "0 dowels"),
         refuted("A", a(), pass(7, 690_668, 1), "1 dowels without a joint"),
         refuted("B, slender", slender, fail(2, 0, 1), "1 dowels without a joint"),
     ]);
+}
+
+/// The force of E's joint that 21 dowels bear by the true root, 2 × 21 × 309,200 × 8.1240384… / 1000 being 105,502.01…,
+/// and not by s: a demand that took the rounded root would ask for 22.
+#[test]
+#[rustfmt::skip]
+fn dowels_are_counted_by_the_true_root() {
+    let at = with(shortest_e(), AXIAL, 105_502);
+    let longer = with(at, JOINT_LENGTH, 756);
+    let used = 361_002;
+    assert_eq!(checked(&at), fail(4, 0, 22));
+    assert_eq!(checked(&longer), pass(5, used, 22));
+    let dowel_by_s = Ratio::new(309_200 * 812_403, 100_000);
+    assert_eq!((Ratio::from(105_502 * 1000) / (dowel_by_s * 2)).ceil(), 22);
+    hold([
+        kept("rule", longer, pass(5, used, 22)),
+        kept("root", longer, pass(5, used, 21)),
+        refuted("root", longer, pass(5, used, 20), "20 dowels, where 21 to 22 are due"),
+        refuted("root", longer, pass(5, used, 23), "23 dowels, where 21 to 22 are due"),
+        // One newton more takes another dowel.
+        refuted("above", with(longer, AXIAL, 105_503), pass(5, used, 21), "21 dowels, where 22 to 22 are due"),
+        // The shortest length has room for the 21: a fail is justified by a greater force alone.
+        kept("shortest", at, pass(5, used, 21)),
+        kept("shortest", at, fail(4, 0, 22)),
+        refuted("shortest", at, fail(4, 0, 21), "a fail on check 4, which holds").at(&[1000]),
+    ]);
+}
+
+/// Where a piece is crushed before the dowel bends, the whole product counts and no root: 66 of 100.
+#[test]
+#[rustfmt::skip]
+fn crushing_takes_the_whole_product() {
+    // 2 × 100 × 600,000 × 6,600,000 / 10^9 = 792,000 N, 2 × 100 × 480,000 × … = 633,600 N.
+    let unbent = with(with(with(with(e(), KB, 5000), KM, 5000), KC, 500), JOINT_LENGTH, 20_000);
+    let side = with(unbent, AXIAL, 633_600);
+    let middle = with(with(unbent, KA, 5000), AXIAL, 792_000);
+    for (name, cells) in [("side", side), ("middle", middle)] {
+        let verdict = checked(&cells);
+        assert_eq!((verdict.passes, verdict.check, verdict.count), (false, 5, 100), "{name}");
+        let more = with(cells, AXIAL, cell(&cells, AXIAL).unwrap() + 1);
+        hold([
+            kept(name, cells, verdict),
+            refuted(name, cells, Verdict { count: 99, ..verdict }, "99 dowels, where 100 to 101 are due"),
+            refuted(name, cells, Verdict { count: 102, ..verdict }, "102 dowels, where 100 to 101 are due"),
+            refuted(name, more, verdict, "100 dowels, where 101 to 101 are due"),
+        ]);
+    }
 }
 
 #[test]
@@ -227,8 +281,8 @@ fn layout_and_slenderness_are_named_in_order() {
         refuted("checks 2, 3", both, fail(10, 1_500_000, 0), "check 2 is the first to fail"),
         kept("checks 1, 2, 3", all_three, fail(1, 0, 0)),
         refuted("checks 1, 2, 3", all_three, fail(2, 0, 0), "check 1 is the first to fail"),
-        kept("chord", chord, pass(5, 342_176, 25)),
-        refuted("chord in row 5", in_row_5, pass(5, 342_176, 25), "check 3 is the first to fail"),
+        kept("chord", chord, pass(5, 342_176, 20)),
+        refuted("chord in row 5", in_row_5, pass(5, 342_176, 20), "check 3 is the first to fail"),
     ]);
 }
 

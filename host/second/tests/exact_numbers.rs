@@ -88,3 +88,23 @@ fn ratios_are_exact() {
         [2, 3, 0]
     );
 }
+
+/// To the least whole number whose square is no less, also of what is a third off a square.
+#[test]
+fn roots_are_rounded_up() {
+    let root = 1_000_000_007;
+    let square = Ratio::from(root) * root;
+    let less = square.checked_sub(Ratio::new(1, 3)).unwrap();
+    assert_eq!(
+        [less, square, square + Ratio::new(1, 3)].map(Ratio::root_up),
+        [root, root, root + 1].map(u128::from)
+    );
+    for (square, root) in [(0, 0), (1, 1), (3, 2), (4, 2), (5, 3)] {
+        assert_eq!(Ratio::from(square).root_up(), root);
+        assert_eq!(Ratio::new(square * 7, 7).root_up(), root);
+    }
+    assert_eq!(Ratio::new(9, 4).root_up(), 2);
+    assert_eq!(Ratio::new(29, 7).root_up(), 3);
+    let greatest = Ratio::from(u64::MAX) * u64::MAX;
+    assert_eq!(greatest.root_up(), u128::from(u64::MAX));
+}

@@ -109,12 +109,17 @@ fn the_stored_files_are_up_to_date() {
     }
 }
 
+/// Of worked rows E and F, of E at its shortest, and of this with the force for 21 dowels and with one newton more.
+const OF_ROWS_E_AND_F: &str =
+    "\n601 pass 5 342176 20\n602 fail 4 0 20\n603 pass 5 342176 20\n604 pass 5 360999 21\n605 fail 4 0 22\n";
+
 /// The stored input shows the verdicts of every check and the refusals, but for 7, which would stop it early.
 #[test]
 fn the_stored_input_is_worth_storing() {
     let input = inputs::stored();
     assert!(input.len() <= INPUT_BYTES);
     let text = Paper::schedule(&input);
+    assert!(text.contains(OF_ROWS_E_AND_F));
     let shown: BTreeSet<String> = text
         .lines()
         .filter_map(|line| line.split_once(' '))

@@ -1,10 +1,11 @@
-//! Document 01's worked rows A to H, on the entries and on the second implementation, with every figure it gives.
+//! Document 01's worked rows A to H, E and F as request 5 has them, on the entries and on the second implementation,
+//! with every figure that they give.
 use lvl_addin::answer::Verdict;
 use lvl_addin::entry;
 use lvl_addin::row::{HostRow, ANSWER_BYTES, CELLS, PACKED_BYTES};
 use lvl_second::cells::*;
 use lvl_second::rows::bytes_of;
-use lvl_second::rows::worked::{a, b, e, with};
+use lvl_second::rows::worked::{a, b, e, shortest_e, with};
 use lvl_second::{Paper, Rules};
 
 /// Holds both implementations to a verdict.
@@ -74,21 +75,32 @@ fn rows_c_and_d_stand_on_either_side_of_slenderness_70() {
 
 #[test]
 fn row_e_has_a_joint() {
-    assert_verdict(&e(), true, 5, 342_176, 25);
+    assert_verdict(&e(), true, 5, 342_176, 20);
     let member = member(&e());
     let joint = member.joint.expect("row E has a joint");
-    let mode = Paper::weakest_mode(member.width, &joint);
-    assert_eq!(mode, 309_200);
-    let dowel = Paper::dowel_capacity(mode, Paper::factor_product(&member.factors));
-    assert_eq!(dowel, 2_040_720);
+    assert_eq!(Paper::dowel_term(&joint), 309_200);
+    assert_eq!(
+        Paper::factor_root(Paper::factor_product(&member.factors)),
+        812_403
+    );
+    let modes = Paper::mode_capacities(&member, &joint);
+    assert_eq!(modes, [3_960_000, 3_168_000, 2_511_950]);
+    let dowel = Paper::dowel_capacity(&member, &joint);
+    assert_eq!(dowel, 2_511_950);
     let count = Paper::dowel_count(member.axial, dowel);
-    assert_eq!(count, 25);
-    assert_eq!(Paper::columns(count, joint.across), 9);
+    assert_eq!(count, 20);
+    assert_eq!(Paper::columns(count, joint.across), 7);
+}
+
+#[test]
+fn row_e_at_its_shortest_passes() {
+    assert_eq!(cell(&shortest_e(), JOINT_LENGTH), Some(7 * 12 * (7 + 1)));
+    assert_verdict(&shortest_e(), true, 5, 342_176, 20);
 }
 
 #[test]
 fn row_f_is_one_millimetre_short() {
-    assert_verdict(&with(e(), JOINT_LENGTH, 839), false, 4, 0, 25);
+    assert_verdict(&with(e(), JOINT_LENGTH, 671), false, 4, 0, 20);
 }
 
 #[test]

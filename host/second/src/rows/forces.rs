@@ -193,8 +193,7 @@ fn beyond_64_bits(random: &mut Random, p: u64) -> u64 {
 fn at_a_count(random: &mut Random, cells: &mut Cells) {
     let Some(member) = member(cells) else { return };
     let Some(joint) = member.joint else { return };
-    let mode = Paper::weakest_mode(member.width, &joint);
-    let dowel = Paper::dowel_capacity(mode, Paper::factor_product(&member.factors));
+    let dowel = Paper::dowel_capacity(&member, &joint);
     let most = random.pick(&[1, 10, 100, 1000, 100_000]);
     let mut count = random.between(1, most);
     if random.one_in(2) {

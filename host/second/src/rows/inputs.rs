@@ -1,20 +1,39 @@
 //! Inputs of the program `schedule`: packed rows back to back, whole, cut off or spoilt.
 use super::random::Random;
+use super::worked::{e, shortest_e, with};
 use super::{judged, refused};
+use crate::cells::{AXIAL, JOINT_LENGTH};
 use crate::{Cells, Paper, Rules, INPUT_BYTES};
 use lvl_addin::row::{CELLS, PACKED_BYTES};
 
-/// The stored input: rows of all kinds, judged and refused, and the beginning of one more.
+/// The stored input: rows of all kinds, judged and refused, worked rows E and F with E at the edges of its length and of
+/// its dowels, and the beginning of one more.
 pub fn stored() -> Vec<u8> {
     let mut random = Random::new(0x5343_4845_4455_4C45);
     let mut input = Vec::new();
     for _ in 0..600 {
         append_any(&mut random, &mut input);
     }
+    for cells in joints() {
+        append(&cells, &mut input);
+    }
     let last = judged::row(&mut random, 1, true);
     append(&last, &mut input);
     input.truncate(input.len() - 1);
     input
+}
+
+/// Rows E and F, E at its shortest, and this with the greatest force for the 21 dowels of its columns and with one newton
+/// more, which takes a column that the length has no room for.
+fn joints() -> [Cells; 5] {
+    let most = with(shortest_e(), AXIAL, 105_501);
+    [
+        e(),
+        with(e(), JOINT_LENGTH, 671),
+        shortest_e(),
+        most,
+        with(most, AXIAL, 105_502),
+    ]
 }
 
 /// A short input: some rows, and then its end, a row cut off, a row with a padding bit set, or any bytes.

@@ -1,4 +1,5 @@
-//! Document 01's worked rows A, B and E, of which the others are changes, rows by their cells, and one of each kind.
+//! Document 01's worked rows A, B and E, of which the others are changes, E with the length that request 5 leaves it, rows
+//! by their cells, and one of each kind.
 use crate::cells::*;
 use lvl_addin::row::CELLS;
 
@@ -70,6 +71,11 @@ pub fn e() -> Cells {
         (KE, 20),
         (KM, 2500),
     ])
+}
+
+/// E with the shortest joint length that holds it.
+pub fn shortest_e() -> Cells {
+    with(e(), JOINT_LENGTH, 672)
 }
 
 /// A row without faults of each kind, the tie with a joint.
