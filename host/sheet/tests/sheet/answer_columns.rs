@@ -11,7 +11,7 @@ fn answer_columns_are_those_of_the_addin() {
     let run = csv(&sheet);
     assert_eq!(
         (run.code, run.err.as_str()),
-        (1, "62 rows: 42 passed, 13 failed, 7 refused\n")
+        (1, "63 rows: 43 passed, 13 failed, 7 refused\n")
     );
     assert_eq!(run.out.lines().count(), sheet.lines().count());
     for (written, typed) in run.out.lines().zip(sheet.lines()) {

@@ -29,7 +29,7 @@ fn a_hundred_thousand_rows() {
     let run = table(&long);
     assert_eq!(
         run.summary(),
-        "100000 rows: 67746 passed, 20969 failed, 11285 refused"
+        "100000 rows: 68257 passed, 20634 failed, 11109 refused"
     );
     assert_eq!(run.err, "", "no progress where nobody watches");
 }

@@ -88,7 +88,7 @@ fn the_program_judges_what_was_packed_as_the_sheet_does() {
         .zip(sheet.lines().skip(1))
         .map(|(number, row)| line_of(number, &cells_of(row)))
         .collect();
-    assert_eq!(expected.len(), 62);
+    assert_eq!(expected.len(), 63);
     let lines = String::from_utf8(scheduled.stdout).unwrap();
     assert_eq!(lines.lines().collect::<Vec<_>>(), expected);
 }

@@ -6,8 +6,8 @@ use crate::common::{answers, csv, hall_roof, table, table_of, ROW_A, ROW_B, ROW_
 const OF_THE_HALL_ROOF: [(&str, [&str; 5]); 11] = [
     ("P1 purlin", ["bending ", "75 × 300", "pass", "74.0", "bending, 7.9"]),
     ("P3 purlin", ["bending ", "75 × 300", "FAIL", "102.3", "bending, 7.9"]),
-    ("T1 bottom chord, axis 2", ["tension ", "150 × 350", "pass", "56.3      26", "net tension, 7.1"]),
-    ("T2 bottom chord", ["tension ", "150 × 350", "FAIL", "–      31", "joint length, 8.20"]),
+    ("T1 bottom chord, axis 2", ["tension ", "150 × 350", "pass", "56.3      19", "net tension, 7.1"]),
+    ("T2b same, joint", ["tension ", "150 × 350", "FAIL", "–      23", "joint length, 8.20"]),
     ("T1 diagonal D2", ["compression ", "150 × 200", "pass", "90.3", "buckling across b, 7.2"]),
     ("C1 main column", ["compression + bending", "160 × 500", "pass", "80.9", "compression with bending, 7.17"]),
     ("T3 bottom chord with hoist, axis 7",
@@ -23,7 +23,7 @@ const OF_THE_HALL_ROOF: [(&str, [&str; 5]); 11] = [
 fn the_hall_roof() {
     let run = table(hall_roof());
     assert_eq!(run.code, 1);
-    assert_eq!(run.summary(), "62 rows: 42 passed, 13 failed, 7 refused");
+    assert_eq!(run.summary(), "63 rows: 43 passed, 13 failed, 7 refused");
     for (member, parts) in OF_THE_HALL_ROOF {
         for part in parts {
             assert!(
@@ -46,7 +46,7 @@ fn the_hall_roof_shows_every_check_that_fails() {
 
 #[test]
 fn worked_rows() {
-    let f = ROW_E.replace("E,", "F,").replace("840", "839");
+    let f = ROW_E.replace("E,", "F,").replace("840", "671");
     let g = ROW_E.replace("E,", "G,").replace(",12,3,", ",16,3,");
     let run = table_of(&[ROW_A, ROW_B, ROW_E, &f, &g]);
     assert_eq!(
@@ -56,8 +56,8 @@ fn worked_rows() {
     for (member, end) in [
         ("A ", "pass        69.1       –  bending, 7.9"),
         ("B ", "pass        31.6       –  buckling across b, 7.2"),
-        ("E ", "pass        34.3      25  net tension, 7.1"),
-        ("F ", "FAIL           –      25  joint length, 8.20"),
+        ("E ", "pass        34.3      20  net tension, 7.1"),
+        ("F ", "FAIL           –      20  joint length, 8.20"),
         ("G ", "FAIL           –       –  dowel layout, 8.20"),
     ] {
         assert!(run.line(member).ends_with(end), "{}", run.line(member));

@@ -27,10 +27,10 @@ fn the_hall_roof() {
     let sheet = hall_roof();
     let run = strengths(&sheet, &[]);
     assert_eq!((run.code, run.err.as_str()), (1, ""));
-    assert_eq!(run.summary(), "62 rows: 55 with strengths, 7 refused");
+    assert_eq!(run.summary(), "63 rows: 56 with strengths, 7 refused");
     let lines = row_lines(&run);
     let rows: Vec<&str> = sheet.lines().skip(1).collect();
-    assert_eq!((lines.len(), rows.len()), (62, 62));
+    assert_eq!((lines.len(), rows.len()), (63, 63));
     let judged = table(&sheet);
     for ((line, row), judged) in lines.iter().zip(&rows).zip(row_lines(&judged)) {
         let cells = cells_of(row);
