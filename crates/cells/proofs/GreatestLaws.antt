@@ -1,22 +1,23 @@
 -- What `greatest` finds, for any type of element, any measure, and any choice of those that count.
 -- Assumes nothing.
 use Prim.Native.Nat.{ℕ, ◌/◌, ◌≤◌, ◌<◌}
-use native.Mathlib.Nat.{le_refl, le_trans, le_of_lt}
+use native.Mathlib.Nat.{le_refl, le_trans, le_of_lt, lt_trans}
 use mathlib.Core.Path.{◌≡◌, refl, sym, ap, ◌∙◌}
 use mathlib.Core.Logic.{◌⊎◌, inl, inr}
 use mathlib.Core.Bool.{Bool, true, false, true≢false}
 use mathlib.Core.List.{List, [], ◌∷◌, ◌++◌}
-use mathlib.Core.Option.{none, some}
+use Rattle.std.specs.Prelude.{Option, Some, None, cond}
+use Rattle.std.proofs.lemmas.Bool.{le-leb, lt-leb}
 use borrow.Author.Tests.{leb-true, leb-false}
 use lib.Dec.{leb}
-use Rattle.cells.specs.Greatest.{Among, greatest}
+use Rattle.cells.specs.Greatest.{Among, greater_by, or_greater, greater_after, greatest}
 
 -- By example, with numbers measured by their tens: the greater, and the first of two that are equal.
-pub greater_found : greatest (λ (n : ℕ). true) (λ (n : ℕ). n / 10) (11 ∷ 21 ∷ 12 ∷ []) ≡ some 21
+pub greater_found : greatest (λ (n : ℕ). true) (λ (n : ℕ). n / 10) (11 ∷ 21 ∷ 12 ∷ []) ≡ Some 21
 unfolding greatest
 greater_found = refl
 
-pub first_of_equals : greatest (λ (n : ℕ). true) (λ (n : ℕ). n / 10) (11 ∷ 12 ∷ []) ≡ some 11
+pub first_of_equals : greatest (λ (n : ℕ). true) (λ (n : ℕ). n / 10) (11 ∷ 12 ∷ []) ≡ Some 11
 unfolding greatest
 first_of_equals = refl
 
@@ -64,7 +65,7 @@ module _ {A : Type 0} (counts : A → Bool) (measure : A → ℕ) where
   -- either none counts, and none is found, or the first greatest is found
   abbrev pub Found : List A → Type 0
   Found list =
-      (NoneCounts list × (greatest counts measure list ≡ none)) ⊎ ((x : A) × FirstGreatest list x × (greatest counts measure list ≡ some x))
+      (NoneCounts list × (greatest counts measure list ≡ None)) ⊎ ((x : A) × FirstGreatest list x × (greatest counts measure list ≡ Some x))
 
   pub greatest_meaning : (list : List A) → Found list
   unfolding greatest
@@ -91,7 +92,7 @@ module _ {A : Type 0} (counts : A → Bool) (measure : A → ℕ) where
           before z (inl e) c = rw e (under (rw e at c))
           before z (inr a) c = f.before z a c
 
-      pick : counts x ≡ true → (y : A) → FirstGreatest list y → greatest counts measure list ≡ some y → (t : Bool) → leb (measure y) (measure x) ≡ t → Found (x ∷ list)
+      pick : counts x ≡ true → (y : A) → FirstGreatest list y → greatest counts measure list ≡ Some y → (t : Bool) → leb (measure y) (measure x) ≡ t → Found (x ∷ list)
       pick c y f e true t = inr (x, first c (λ z a d. le_trans (greatest_above list y f z a d) (leb-true (measure y) (measure x) t)), rw (c, e, t))
       pick c y f e false t = inr (y, later y f (λ d. leb-false (measure y) (measure x) t), rw (c, e, t))
 
@@ -104,3 +105,39 @@ module _ {A : Type 0} (counts : A → Bool) (measure : A → ℕ) where
       by true c (inr (y, f, e)) = pick c y f e (leb (measure y) (measure x)) refl
       by false c (inl (skipped, e)) = inl (none_of c skipped, rw (c, e))
       by false c (inr (y, f, e)) = inr (y, later y f (λ d. absurd (true≢false (sym d ∙ c))), rw (c, e))
+
+-- A search that goes through the list from its first element, where every element counts.
+module _ {A : Type 0} (measure : A → ℕ) where
+  -- what is found in the end, from what was found so far and what is left
+  abbrev pub found_from : Option A → List A → Option A
+  found_from None list = greatest (λ (x : A). true) measure list
+  found_from (Some x) list = Some (or_greater measure x (greatest (λ (x : A). true) measure list))
+
+  pub found_at_end : (found : Option A) → found_from found [] ≡ found
+  unfolding greatest
+  found_at_end None = refl
+  found_at_end (Some x) = refl
+
+  -- of three the greatest is found from either end
+  greater_three : (x y z : A) → greater_by measure (greater_by measure x y) z ≡ greater_by measure x (greater_by measure y z)
+  greater_three x y z = by (leb (measure y) (measure x)) refl (leb (measure z) (measure y)) refl
+    where
+      by : (t : Bool) → leb (measure y) (measure x) ≡ t → (u : Bool) → leb (measure z) (measure y) ≡ u
+          → cond (leb (measure z) (measure (cond t x y))) (cond t x y) z ≡ cond (leb (measure (cond u y z)) (measure x)) x (cond u y z)
+      by true t true u =
+          let above : measure z ≤ measure x = le_trans (leb-true (measure z) (measure y) u) (leb-true (measure y) (measure x) t) in
+          rw (le-leb (measure z) (measure x) above, t) refl
+      by true t false u = refl
+      by false t true u = rw (u, t) refl
+      by false t false u =
+          let below : measure x < measure z = lt_trans (leb-false (measure y) (measure x) t) (leb-false (measure z) (measure y) u) in
+          rw (u, lt-leb (measure z) (measure x) below) refl
+
+  pub found_next : (found : Option A) (y : A) (list : List A) → found_from (Some (greater_after measure found y)) list ≡ found_from found (y ∷ list)
+  unfolding greatest
+  found_next None y list = refl
+  found_next (Some x) y list = by (greatest (λ (x : A). true) measure list)
+    where
+      by : (g : Option A) → ◌≡◌ {A = Option A} (Some (or_greater measure (greater_by measure x y) g)) (Some (greater_by measure x (or_greater measure y g)))
+      by None = refl
+      by (Some z) = ap Some (greater_three x y z)

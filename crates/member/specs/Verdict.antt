@@ -1,7 +1,6 @@
 -- The verdict on a member.
 -- Assumes nothing.
-use Rattle.std.specs.Prelude.{ℕ, Bool, false, not, cond, ◌||◌, List, [], ◌∷◌, leb}
-use Rattle.std.proofs.Math.Option.{Option, none, some}
+use Rattle.std.specs.Prelude.{ℕ, Bool, false, not, cond, ◌||◌, List, [], ◌∷◌, leb, Option, Some, None}
 use Rattle.rounding.specs.Utilisation.{utilisation}
 use Rattle.sp64.specs.Buckling.{buckling_phi, buckling_capacity, euler_capacity}
 use Rattle.sp64.specs.Capacity.{net_tension_capacity, side_piece_capacity, shear_capacity}
@@ -57,8 +56,8 @@ greater_of = greater_by (λ (g : Governing). g.utilisation)
 
 -- the check that governs, with its utilisation; check 0 where there is none, which no kind has
 abbrev pub governed_by : Member → Option StrengthCheck → Governing
-governed_by m none = record { check = 0; utilisation = 0 }
-governed_by m (some c) = used m c
+governed_by m None = record { check = 0; utilisation = 0 }
+governed_by m (Some c) = used m c
 
 -- a strength check that the row has
 abbrev pub has_strength : Member → StrengthCheck → Bool

@@ -3,7 +3,6 @@
 use mathlib.Core.Path.{◌≡◌, refl, sym, ap, ap₂, ◌∙◌}
 use mathlib.Core.Bool.{Bool, true, false, not, cond, ◌||◌, true≢false}
 use mathlib.Core.List.{List, [], ◌∷◌, ◌++◌}
-use mathlib.Core.Option.{Option as Maybe, none, some}
 use Rattle.std.specs.Prelude.{Option, None, Some, option_map}
 use lib.Dec.{leb, leb-zero}
 use borrow.Author.Tests.{not-true, not-false, leb-true}
@@ -177,9 +176,9 @@ module _ (m : Member) (v : Verdict) {t : Bool} {r : Verdict} (found : t ≡ (omi
   length_holds left e = rw (← found, not-false t left) e
 
 -- the greater of c and what governs the rest, by what the code finds for them
-greater_of_lem : (m : Member) (c : StrengthCheck) (rest : Maybe StrengthCheck) → greater_of (used m c) (governed_by m rest) ≡ used m (or_greater (utilisation_of m) c rest)
-greater_of_lem m c none = rw leb-zero refl
-greater_of_lem m c (some d) = by (leb (utilisation_of m d) (utilisation_of m c))
+greater_of_lem : (m : Member) (c : StrengthCheck) (rest : Option StrengthCheck) → greater_of (used m c) (governed_by m rest) ≡ used m (or_greater (utilisation_of m) c rest)
+greater_of_lem m c None = rw leb-zero refl
+greater_of_lem m c (Some d) = by (leb (utilisation_of m d) (utilisation_of m c))
   where
     by : (t : Bool) → cond t (used m c) (used m d) ≡ used m (cond t c d)
     by true = refl
