@@ -15,3 +15,4 @@ pub mod ChecksMeaning
 pub mod JointMeaning
 pub mod VerdictRange
 pub mod FactorEdges
+pub mod RankMeaning

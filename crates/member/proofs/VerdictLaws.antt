@@ -30,7 +30,7 @@ judged_refused (refuses n c) number cell e = cc
 
 -- Lists in which the numbers rise.
 module _ {A : Type 0} (num : A → ℕ) where
-  abbrev Below : A → List A → Type 0
+  abbrev pub Below : A → List A → Type 0
   Below x [] = Unit
   Below x (y ∷ list) = (num x < num y) × Below x list
 

@@ -61,7 +61,7 @@ combined_most N M NR C MR = by (leb 1000000 (axial_share N C))
 
 module _ (m : Member) where
   -- every utilisation is capped
-  utilisation_most : (c : StrengthCheck) → utilisation_of m c ≤ 9999999
+  pub utilisation_most : (c : StrengthCheck) → utilisation_of m c ≤ 9999999
   utilisation_most net_tension = min-le_left 9999999 _
   utilisation_most side_pieces = min-le_left 9999999 _
   utilisation_most bending = min-le_left 9999999 _

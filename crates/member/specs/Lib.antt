@@ -6,6 +6,7 @@ pub mod Checks
 pub mod Verdict
 pub mod Unrounded
 pub mod Demand3
+pub mod Rank
 pub mod Ranges
 pub mod WorkedRows
 pub mod EdgeRows

@@ -18,3 +18,10 @@ pub struct Governing {
     pub check: u32,
     pub utilisation: u32,
 }
+
+// A verdict with the number that a schedule gave its row.
+#[derive(Clone, Copy)]
+pub struct NumberedVerdict {
+    pub number: u32,
+    pub verdict: Verdict,
+}

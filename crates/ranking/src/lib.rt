@@ -1,0 +1,4 @@
+// The ranking of verdicts.
+#![tactic(auto)]
+
+pub mod rank;
