@@ -1,0 +1,9 @@
+pub mod HeldLaws
+pub mod HistoryLaws
+pub mod Mirrors
+pub mod CheckedAfresh
+pub mod ScheduleMeaning
+pub mod LeftMeaning
+pub mod CallsMeaning
+pub mod WorkedLaws
+pub mod Reached

@@ -1,0 +1,4 @@
+pub mod Kept
+pub mod Calls
+pub mod Afresh
+pub mod WorkedCalls
