@@ -1,0 +1,4 @@
+// The operations of a kept schedule.
+#![tactic(auto)]
+
+pub mod schedule;
