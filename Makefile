@@ -1,6 +1,6 @@
 # make demo: the hall roof and the floor beams of examples/, judged, and the strengths of the hall roof. make test: the whole gate; its last line, printed only if
 # everything passed, is the prover's count 'N passed, 0 failed'. make bench: rows per second beside the second implementation. make archive: the add-in to link,
-# target/staticlib/libaddin.a. make program: target/bin/schedule.
+# target/staticlib/libaddin.a. make program: target/bin/schedule, and replay for the tests.
 
 CARGO = cargo
 HOST = cd host && $(CARGO)
@@ -12,8 +12,8 @@ HOST = cd host && $(CARGO)
 test: prove archive host-tests
 	@tail -n 1 target/gate.log | grep -x '[0-9]* passed, 0 failed'
 
-# Every crate proved, every must-fail edit refused, the program run on its stored input. An edit that cannot be applied shows nothing and yet fails nothing of
-# rt ci, which counts it as bad: here it fails. The tests take the program that the gate has built.
+# Every crate proved, every must-fail edit refused, the programs run on their stored inputs. An edit that cannot be applied shows nothing and yet fails nothing of
+# rt ci, which counts it as bad: here it fails. The tests take the programs that the gate has built.
 prove:
 	@log=$$(mktemp); code=$$(mktemp); \
 	{ rt ci; echo $$? > $$code; } 2>&1 | tee $$log; \
@@ -21,7 +21,7 @@ prove:
 	status=$$(cat $$code); rm $$code; exit $$status
 	@grep -q '^rt: ok;' target/gate.log
 	@! grep '^rt: ok;.*, [0-9]* bad' target/gate.log
-	@cp crates/schedule/out/schedule target/bin/
+	@cp crates/schedule/out/schedule crates/replay/out/replay target/bin/
 
 # The add-in as C and Rust link it, for every x86-64 processor. It lies apart from what the prover makes, which rt ci moves away.
 archive:
@@ -31,8 +31,9 @@ archive:
 
 program:
 	cd crates/schedule && rt run < /dev/null
+	cd crates/replay && rt run < /dev/null
 	@mkdir -p target/bin
-	@cp crates/schedule/out/schedule target/bin/
+	@cp crates/schedule/out/schedule crates/replay/out/replay target/bin/
 
 # The second implementation against the add-in, demand 3 on its verdicts, the wrong copies, the header, the sheet, the program;
 # and that no package needs a later Rust than it says.
