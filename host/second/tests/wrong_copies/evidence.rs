@@ -1,12 +1,15 @@
-//! What the wrong copies are held against: the entries' answers to the generated rows, beams and sags, and the texts of
-//! inputs.
+//! What the wrong copies are held against: the entries' answers to the generated rows, beams and sags, the texts of inputs,
+//! and the lines of calls.
 use lvl_addin::entry;
 use lvl_second::beams::{self, BeamCase, BeamCases};
+use lvl_second::calls::spending::Spending;
+use lvl_second::calls::Lists;
+use lvl_second::kept::LAST_NUMBER;
 use lvl_second::rows::inputs;
 use lvl_second::rows::random::Random;
 use lvl_second::rows::{strength_answers, Case, Cases, LONGEST_ANSWER, LONGEST_SPACE};
 use lvl_second::sags::{self, SagCase, SagCases};
-use lvl_second::{FloorRules, Paper, Rules, SagRules, StrengthRules};
+use lvl_second::{Call, FloorRules, Kept, KeptRules, Paper, Rules, SagRules, StrengthRules};
 
 /// The rows, the floor beams and the sags, from the beginnings of their sequences.
 const ROWS: usize = 150_000;
@@ -15,6 +18,9 @@ const SAGS: usize = 150_000;
 
 /// The short inputs of `schedule`.
 const INPUTS: usize = 300;
+
+/// The lists of calls, from the beginning of their sequence.
+const LISTS: usize = 60;
 
 /// What the lent bytes hold before a call.
 const BEFORE: u8 = 0xA5;
@@ -41,12 +47,16 @@ struct AnsweredSag {
     checked: Returned<{ sags::LONGEST_ANSWER }>,
 }
 
+/// Calls from an empty schedule, each with its line.
+type AnsweredCalls = Vec<(Call, String)>;
+
 /// The right answers.
 pub struct Evidence {
     rows: Vec<Answered>,
     beams: Vec<AnsweredBeam>,
     sags: Vec<AnsweredSag>,
     inputs: Vec<(Vec<u8>, String)>,
+    lists: Vec<AnsweredCalls>,
 }
 
 impl Evidence {
@@ -78,8 +88,20 @@ impl Evidence {
                 .into_iter()
                 .map(|input| (input.clone(), Paper::schedule(&input)))
                 .collect(),
+            lists: Lists::new().take(LISTS).map(answered_calls).collect(),
         }
     }
+}
+
+fn answered_calls(calls: Vec<Call>) -> AnsweredCalls {
+    let mut kept = Paper::empty_schedule();
+    let answer = |call| (call, next_line::<Paper>(&mut kept, &call));
+    calls.into_iter().map(answer).collect()
+}
+
+/// The line of a call.
+fn next_line<R: KeptRules>(kept: &mut Kept, call: &Call) -> String {
+    R::answer_line(&R::answer_call(kept, call))
 }
 
 fn call<const LENGTH: usize>(
@@ -102,9 +124,9 @@ fn call_with_sag(
 }
 
 /// The rules of document 01 and of every request: what a copy needs to be held against any of the answers.
-pub trait EveryRule: FloorRules + StrengthRules + SagRules + 'static {}
+pub trait EveryRule: FloorRules + StrengthRules + SagRules + KeptRules + 'static {}
 
-impl<R: FloorRules + StrengthRules + SagRules + 'static> EveryRule for R {}
+impl<R: FloorRules + StrengthRules + SagRules + KeptRules + 'static> EveryRule for R {}
 
 /// An entry, or the program, that may show a copy to be wrong.
 pub trait Shows: 'static {
@@ -168,6 +190,36 @@ impl Shows for Scheduling {
     }
 }
 
+/// By the line of some call.
+pub struct Keeping;
+impl Shows for Keeping {
+    fn shows<R: EveryRule>(evidence: &Evidence) -> bool {
+        let differs = |calls: &AnsweredCalls| {
+            let mut kept = R::empty_schedule();
+            let mut answers = calls.iter();
+            answers.any(|(call, line)| next_line::<R>(&mut kept, call) != *line)
+        };
+        evidence.lists.iter().any(differs)
+    }
+}
+
+/// By some call of the list that spends the numbers. The answers are made anew: they are too many to keep. Long before the
+/// last number, what governs is left aside, which `Keeping` shows.
+pub struct SpendingNumbers;
+impl Shows for SpendingNumbers {
+    fn shows<R: EveryRule>(_evidence: &Evidence) -> bool {
+        let mut right = Paper::empty_schedule();
+        let mut kept = R::empty_schedule();
+        Spending::new().any(|call| {
+            if right.next < LAST_NUMBER - 1000 {
+                R::carry_out(&mut kept, &call) != Paper::carry_out(&mut right, &call)
+            } else {
+                next_line::<R>(&mut kept, &call) != next_line::<Paper>(&mut right, &call)
+            }
+        })
+    }
+}
+
 /// A wrong copy: what it does wrong, and whether that is seen.
 pub struct Wrong {
     pub name: String,
@@ -197,23 +249,47 @@ macro_rules! shown_by {
 /// name and the one rule it changes.
 macro_rules! wrong_copies {
     (Rules, $($copies:tt)*) => {
-        declare_copies! { Rules [FloorRules StrengthRules SagRules], $($copies)* }
+        declare_copies! { Rules [FloorRules StrengthRules SagRules KeptRules], $($copies)* }
     };
     (FloorRules, $($copies:tt)*) => {
-        declare_copies! { FloorRules [Rules StrengthRules SagRules], $($copies)* }
+        declare_copies! { FloorRules [Rules StrengthRules SagRules KeptRules], $($copies)* }
     };
     (StrengthRules, $($copies:tt)*) => {
-        declare_copies! { StrengthRules [Rules FloorRules SagRules], $($copies)* }
+        declare_copies! { StrengthRules [Rules FloorRules SagRules KeptRules], $($copies)* }
     };
     (SagRules, $($copies:tt)*) => {
-        declare_copies! { SagRules [Rules FloorRules StrengthRules], $($copies)* }
+        declare_copies! { SagRules [Rules FloorRules StrengthRules KeptRules], $($copies)* }
+    };
+    (KeptRules, $($copies:tt)*) => {
+        declare_copies! { KeptRules by_the_paper, $($copies)* }
     };
 }
 
-/// Lets a copy keep all of these rules.
+/// Lets a copy keep all of these rules. A copy of the kept schedule's has the row check of `Paper` itself: with one of its
+/// own each would take as long to build as a copy of the row's rules.
 macro_rules! keep_rules {
     ($copy:ident [$($kept:ident)*]) => {
         $(impl lvl_second::$kept for $copy {})*
+    };
+    ($copy:ident by_the_paper) => {
+        impl lvl_second::Rules for $copy {
+            fn read_row(row: &[u8]) -> Result<lvl_second::Cells, lvl_addin::answer::Refusal> {
+                lvl_second::Paper::read_row(row)
+            }
+
+            fn accept(
+                cells: &lvl_second::Cells,
+            ) -> Result<lvl_second::Member, lvl_addin::answer::Refusal> {
+                lvl_second::Paper::accept(cells)
+            }
+
+            fn check_row(
+                cells: &lvl_second::Cells,
+            ) -> Result<lvl_addin::answer::Verdict, lvl_addin::answer::Refusal> {
+                lvl_second::Paper::check_row(cells)
+            }
+        }
+        keep_rules! { $copy [FloorRules StrengthRules SagRules] }
     };
 }
 

@@ -2,7 +2,8 @@
 //!
 //! A copy is seen if it differs from the add-in's entries on rows, floor beams and sags of the same sequences that
 //! `compare`, `compare_strengths`, `compare_beams` and `compare_sags` read, or, in the rules of unpacking and of the program `schedule`, from the
-//! right text, to which `schedule` holds the program. A copy that panics where the entry answers is seen as well.
+//! right text, to which `schedule` holds the program, or, in the rules of the kept schedule, from the right lines of the
+//! calls to which `compare_kept` holds the program `replay`. A copy that panics where the entry answers is seen as well.
 //!
 //! Left out: slenderness with < in place of ≤, at the limits and at 70. It is the same rule, since 12 L² = n² s²
 //! has no solution in whole numbers above 0 (12 is no square).
@@ -17,6 +18,7 @@ mod families;
 mod floor;
 mod host;
 mod joint;
+mod kept;
 mod narrow;
 mod packed;
 mod reading;
@@ -27,18 +29,20 @@ mod strengths;
 mod verdict;
 
 use evidence::{
-    Checking, Evidence, Flooring, GivingStrengths, Packing, Sagging, Scheduling, Shows, Wrong,
+    Checking, Evidence, Flooring, GivingStrengths, Keeping, Packing, Sagging, Scheduling, Shows,
+    SpendingNumbers, Wrong,
 };
 use std::panic::{catch_unwind, set_hook, take_hook, AssertUnwindSafe};
 
 /// The least numbers of wrong copies of the row's rules, of the floor beam's, of the strengths' and the sags' own and of
-/// those that they share with the row, lest some be lost.
+/// those that they share with the row, and of the kept schedule's, lest some be lost.
 const LEAST_OF_ROW: usize = 755;
 const LEAST_OF_BEAM: usize = 100;
 const LEAST_OF_STRENGTHS: usize = 180;
 const LEAST_SHARED_BY_STRENGTHS: usize = 460;
 const LEAST_OF_SAGS: usize = 470;
 const LEAST_SHARED_BY_SAGS: usize = 410;
+const LEAST_OF_SCHEDULES: usize = 290;
 
 fn of_the_row() -> Vec<Wrong> {
     let mut copies = families::copies();
@@ -93,6 +97,12 @@ fn every_wrong_copy_is_seen() {
         LEAST_SHARED_BY_SAGS,
         &evidence,
     );
+    assert_seen(
+        "wrong copies of the kept schedule",
+        &kept::copies(),
+        LEAST_OF_SCHEDULES,
+        &evidence,
+    );
 }
 
 fn assert_seen(what: &str, copies: &[Wrong], least: usize, evidence: &Evidence) {
@@ -124,4 +134,6 @@ fn the_right_rules_are_not_seen_as_wrong() {
     assert!(!Flooring::shows::<Paper>(&evidence));
     assert!(!Sagging::shows::<Paper>(&evidence));
     assert!(!Scheduling::shows::<Paper>(&evidence));
+    assert!(!Keeping::shows::<Paper>(&evidence));
+    assert!(!SpendingNumbers::shows::<Paper>(&evidence));
 }

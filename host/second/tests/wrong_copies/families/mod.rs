@@ -5,6 +5,7 @@
 mod cells;
 mod checks;
 mod figures;
+mod ranks;
 mod sag_answers;
 mod sags;
 mod stresses;
@@ -43,7 +44,7 @@ fn kind_code(kind: Kind) -> u64 {
 /// Families of document 01's rules, which keep those of the requests.
 macro_rules! keep_the_requests {
     ($($family:ident),* $(,)?) => {
-        $(keep_rules! { $family [FloorRules StrengthRules SagRules] })*
+        $(keep_rules! { $family [FloorRules StrengthRules SagRules KeptRules] })*
     };
 }
 use keep_the_requests;
@@ -51,10 +52,18 @@ use keep_the_requests;
 /// Families of the sags' rules, which keep all others.
 macro_rules! keep_all_but_the_sags {
     ($($family:ident),* $(,)?) => {
-        $(keep_rules! { $family [Rules FloorRules StrengthRules] })*
+        $(keep_rules! { $family [Rules FloorRules StrengthRules KeptRules] })*
     };
 }
 use keep_all_but_the_sags;
+
+/// Families of the kept schedule's rules, which keep all others.
+macro_rules! keep_all_but_the_schedule {
+    ($($family:ident),* $(,)?) => {
+        $(keep_rules! { $family by_the_paper })*
+    };
+}
+use keep_all_but_the_schedule;
 
 /// Those that rows have to show.
 pub fn copies() -> Vec<Wrong> {
@@ -96,4 +105,9 @@ pub fn of_sags() -> Vec<Wrong> {
     let mut copies = sags::copies();
     copies.extend(sag_answers::copies());
     copies
+}
+
+/// Those of the kept schedule's own rules.
+pub fn of_schedules() -> Vec<Wrong> {
+    ranks::copies()
 }

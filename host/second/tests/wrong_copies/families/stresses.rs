@@ -102,7 +102,7 @@ impl StrengthRules for StressOfKindLeftOut {
 
 macro_rules! keep_the_others {
     ($($family:ident),* $(,)?) => {
-        $(keep_rules! { $family [Rules FloorRules SagRules] })*
+        $(keep_rules! { $family [Rules FloorRules SagRules KeptRules] })*
     };
 }
 
