@@ -2,7 +2,8 @@
 use crate::kept::{Answered, Call, Given};
 use crate::kept_governing::Governing;
 use crate::kept_rules::KeptRules;
-use lvl_addin::answer::{Refusal, Verdict};
+use crate::schedule::verdict_text;
+use lvl_addin::answer::Refusal;
 use lvl_addin::row::ROW_BYTES;
 
 /// The bytes of a call: one that says what is asked, and a row's.
@@ -43,14 +44,8 @@ pub fn governing_text(governing: &Option<Governing>) -> String {
     let Some(Governing { number, verdict }) = governing else {
         return "governing none".to_owned();
     };
-    let word = if verdict.passes { "pass" } else { "fail" };
-    let Verdict {
-        check,
-        utilisation,
-        count,
-        ..
-    } = verdict;
-    format!("governing {number} {word} {check} {utilisation} {count}")
+    let verdict = verdict_text(verdict);
+    format!("governing {number} {verdict}")
 }
 
 /// The line of one call.

@@ -14,18 +14,24 @@ pub fn next_row<R: Rules>(input: &[u8]) -> (Result<Verdict, Refusal>, &[u8]) {
     }
 }
 
+/// The part of a line that tells a verdict.
+pub fn verdict_text(verdict: &Verdict) -> String {
+    let word = if verdict.passes { "pass" } else { "fail" };
+    let Verdict {
+        check,
+        utilisation,
+        count,
+        ..
+    } = verdict;
+    format!("{word} {check} {utilisation} {count}")
+}
+
 /// The line of one row.
 pub fn line(number: usize, judged: Result<Verdict, Refusal>) -> String {
     match judged {
         Ok(verdict) => {
-            let word = if verdict.passes { "pass" } else { "fail" };
-            let Verdict {
-                check,
-                utilisation,
-                count,
-                ..
-            } = verdict;
-            format!("{number} {word} {check} {utilisation} {count}\n")
+            let verdict = verdict_text(&verdict);
+            format!("{number} {verdict}\n")
         }
         Err(Refusal { number: why, cell }) => format!("{number} refused {why} {cell}\n"),
     }

@@ -8,6 +8,8 @@ mod broken;
 mod counts;
 #[path = "compare_kept/program.rs"]
 mod program;
+#[path = "common/programs.rs"]
+mod programs;
 #[path = "common/row_refusals.rs"]
 mod row_refusals;
 #[path = "compare_kept/seen.rs"]

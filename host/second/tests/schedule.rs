@@ -1,4 +1,6 @@
 //! The program `schedule` against the second implementation's text, and its stored input and output.
+#[path = "common/programs.rs"]
+mod programs;
 #[path = "schedule/streams.rs"]
 mod streams;
 
@@ -9,10 +11,9 @@ use lvl_second::rows::inputs;
 use lvl_second::rows::judged;
 use lvl_second::rows::random::Random;
 use lvl_second::{Paper, Rules, INPUT_BYTES};
+use programs::{assert_stored, crate_folder, run_in_pieces};
 use std::collections::BTreeSet;
-use std::io::Write;
-use std::path::{Path, PathBuf};
-use std::process::{Child, Command, Stdio};
+use std::path::PathBuf;
 use std::time::Duration;
 
 /// What document 01 gives for the bytes 00 00 00 80.
@@ -21,46 +22,14 @@ const OF_THE_PAPER: &str = "1 refused 2 1\n2 refused 6 1\n";
 /// What the program says on standard error of an input that is longer than it takes in.
 const INPUT_CUT: &str = "schedule: the input is longer than 65,536 bytes: the rest is ignored\n";
 
-fn root() -> PathBuf {
-    Path::new(env!("CARGO_MANIFEST_DIR")).join("../..")
-}
-
-fn stored_folder() -> PathBuf {
-    root().join("crates").join("schedule")
-}
-
 fn program_path() -> PathBuf {
-    root().join("target").join("bin").join("schedule")
-}
-
-/// Starts the built program.
-fn start() -> Child {
-    let program = program_path();
-    let started = Command::new(&program)
-        .stdin(Stdio::piped())
-        .stdout(Stdio::piped())
-        .stderr(Stdio::piped())
-        .spawn();
-    started.unwrap_or_else(|why| panic!("{}: {why}; `make program` builds it", program.display()))
+    programs::program_path("schedule")
 }
 
 /// What the program prints for an input that is written in pieces of this length, with a pause after each. On standard error it
 /// says that an input is longer than it takes in, and nothing else.
 fn printed_in_pieces(input: &[u8], length: usize, pause: Duration) -> String {
-    let mut program = start();
-    let mut stdin = program.stdin.take().expect("standard input is piped");
-    let ended = std::thread::scope(|scope| {
-        scope.spawn(move || {
-            for piece in input.chunks(length) {
-                // The program may end before it has read everything.
-                if stdin.write_all(piece).and_then(|()| stdin.flush()).is_err() {
-                    break;
-                }
-                std::thread::sleep(pause);
-            }
-        });
-        program.wait_with_output().expect("the program ends")
-    });
+    let ended = run_in_pieces("schedule", input, length, pause);
     assert!(ended.status.success());
     let said = String::from_utf8(ended.stderr).expect("the program says text");
     let is_cut = input.len() > INPUT_BYTES;
@@ -87,26 +56,10 @@ fn last_refusal(text: &str) -> Option<Refusal> {
     })
 }
 
-/// The stored files hold what this package makes anew; with `LVL_WRITE_STORED=1` in the environment they are written.
 #[test]
 fn the_stored_files_are_up_to_date() {
-    let folder = stored_folder();
     let input = inputs::stored();
-    let output = Paper::schedule(&input);
-    let files = [("stdin", &input[..]), ("stdout", output.as_bytes())];
-    for (name, bytes) in files {
-        let file = folder.join(name);
-        if std::env::var_os("LVL_WRITE_STORED").is_some_and(|set| set == "1") {
-            std::fs::create_dir_all(&folder).expect("the folder can be made");
-            std::fs::write(&file, bytes).expect("the file can be written");
-        }
-        let stored = std::fs::read(&file).unwrap_or_else(|why| panic!("{}: {why}", file.display()));
-        assert!(
-            stored == bytes,
-            "{} differs: LVL_WRITE_STORED=1 writes it anew",
-            file.display()
-        );
-    }
+    assert_stored("schedule", &input, &Paper::schedule(&input));
 }
 
 /// Of worked rows E and F, of E at its shortest, and of this with the force for 21 dowels and with one newton more.
@@ -154,7 +107,8 @@ fn the_stored_input_is_worth_storing() {
 
 #[test]
 fn the_stored_input_prints_the_stored_output() {
-    let stored = |name| std::fs::read(stored_folder().join(name)).expect("the file is stored");
+    let stored =
+        |name| std::fs::read(crate_folder("schedule").join(name)).expect("the file is stored");
     assert_eq!(printed(&stored("stdin")).as_bytes(), stored("stdout"));
 }
 

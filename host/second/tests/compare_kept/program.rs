@@ -1,31 +1,17 @@
 //! The built program `replay`, and what it prints.
+use crate::programs::{run_in_pieces, start};
 use lvl_second::replay::call_bytes;
 use lvl_second::Call;
 use std::io::{BufRead, BufReader, BufWriter, Read, Write};
-use std::path::{Path, PathBuf};
-use std::process::{Child, Command, ExitStatus, Stdio};
+use std::process::ExitStatus;
 use std::time::Duration;
 
 /// How much is written and read at once.
 const BUFFER: usize = 1 << 16;
 
-pub fn in_package(path: &str) -> PathBuf {
-    Path::new(env!("CARGO_MANIFEST_DIR")).join(path)
-}
-
-fn start() -> Child {
-    let program = in_package("../../target/bin/replay");
-    let started = Command::new(&program)
-        .stdin(Stdio::piped())
-        .stdout(Stdio::piped())
-        .stderr(Stdio::piped())
-        .spawn();
-    started.unwrap_or_else(|why| panic!("{}: {why}; `make program` builds it", program.display()))
-}
-
 /// Runs the program on calls, which are made while it runs, and hands over each line as it comes, its end included.
 pub fn run(calls: impl Iterator<Item = Call> + Send, mut take: impl FnMut(&[u8])) {
-    let mut program = start();
+    let mut program = start("replay");
     let stdin = program.stdin.take().expect("standard input is piped");
     let stdout = program.stdout.take().expect("standard output is piped");
     let ended = std::thread::scope(|scope| {
@@ -65,20 +51,7 @@ pub fn ended(input: &[u8]) -> Ended {
 
 /// Runs the program on bytes that are written in pieces of this length, with a pause after each.
 pub fn ended_in_pieces(input: &[u8], length: usize, pause: Duration) -> Ended {
-    let mut program = start();
-    let mut stdin = program.stdin.take().expect("standard input is piped");
-    let output = std::thread::scope(|scope| {
-        scope.spawn(move || {
-            for piece in input.chunks(length) {
-                // The program may end before it has read everything.
-                if stdin.write_all(piece).and_then(|()| stdin.flush()).is_err() {
-                    break;
-                }
-                std::thread::sleep(pause);
-            }
-        });
-        program.wait_with_output().expect("the program ends")
-    });
+    let output = run_in_pieces("replay", input, length, pause);
     Ended {
         status: output.status,
         printed: text(&output.stdout[..]),

@@ -1,9 +1,9 @@
 //! The stored input and output of the program.
-use crate::program::{ended, in_package};
+use crate::program::ended;
+use crate::programs::{assert_stored, crate_folder};
 use lvl_second::calls::stored;
 use lvl_second::replay::{call_bytes, CALL_BYTES};
 use lvl_second::{KeptRules, Paper};
-use std::path::PathBuf;
 
 /// Rows A to D, F, G and E, and A once more, added to an empty schedule and removed. F and G rank alike.
 const OF_WORKED_ROWS: &str = "\
@@ -31,33 +31,13 @@ refused 3 3 governing none
 refused 4 7 governing none
 ";
 
-fn folder() -> PathBuf {
-    in_package("../../crates/replay")
-}
-
 fn input() -> Vec<u8> {
     stored::calls().iter().flat_map(call_bytes).collect()
 }
 
-/// The stored files hold what this package makes anew; with `LVL_WRITE_STORED=1` in the environment they are written.
 #[test]
 fn the_stored_files_are_up_to_date() {
-    let input = input();
-    let output = Paper::replay(&stored::calls());
-    let files = [("stdin", &input[..]), ("stdout", output.as_bytes())];
-    for (name, bytes) in files {
-        let file = folder().join(name);
-        if std::env::var_os("LVL_WRITE_STORED").is_some_and(|set| set == "1") {
-            std::fs::create_dir_all(folder()).expect("the folder can be made");
-            std::fs::write(&file, bytes).expect("the file can be written");
-        }
-        let stored = std::fs::read(&file).unwrap_or_else(|why| panic!("{}: {why}", file.display()));
-        assert!(
-            stored == bytes,
-            "{} differs: LVL_WRITE_STORED=1 writes it anew",
-            file.display()
-        );
-    }
+    assert_stored("replay", &input(), &Paper::replay(&stored::calls()));
 }
 
 /// It shows every sort of answer, and is small enough to be looked at.
@@ -77,7 +57,8 @@ fn the_stored_input_is_worth_storing() {
 
 #[test]
 fn the_stored_input_prints_the_stored_output() {
-    let stored = |name| std::fs::read(folder().join(name)).expect("the file is stored");
+    let stored =
+        |name| std::fs::read(crate_folder("replay").join(name)).expect("the file is stored");
     let run = ended(&stored("stdin"));
     assert_eq!(run.printed.as_bytes(), stored("stdout"));
     assert!(run.status.success());
