@@ -9,9 +9,9 @@ use mathlib.Core.List.{List, [], ◌∷◌, ◌++◌, append-nil}
 use mathlib.Core.Bool.{Bool, true, false}
 use lib.ListN.{length, take, drop, set, replicate, length-append, length-drop}
 use lib.Seq.{set-append_seam, append_snoc, take_at}
-use Rattle.std.specs.Prelude.{None, Some, Result as Answer, Ok, Err, IfOk}
+use Rattle.std.specs.Prelude.{None, Some, Result as Answer, Ok, Err, IfOk, IfErr}
 use Rattle.cells.specs.Row.{cell_count, cells_of, blanks, Cell}
-use Rattle.cells.specs.Refusal.{Result, gives, refuses, by_number, map_given, value_or}
+use Rattle.cells.specs.Refusal.{Result, gives, refuses, by_number, map_given, value_or, refusal_number, refusal_cell}
 use Rattle.cells.specs.declared.refusal.Refusal.{Refusal}
 use Rattle.packed.specs.Bits.{Bytes, bits, number, bits_of}
 use Rattle.packed.specs.Packing.{packed}
@@ -20,6 +20,7 @@ use Rattle.codec.specs.Place.{on_hand, Taken, left, Reached, Reads}
 use Rattle.codec.specs.declared.cursor.Cursor.{Cursor}
 use Rattle.codec.specs.declared.unpack.UnpackedRow.{UnpackedRow}
 use Rattle.packed.proofs.BitLaws.{bits_zero, length_bits, length-bits_of, number_bits, number_zeros, number_nil}
+use Rattle.packed.proofs.PackMeaning.{refusal_blank}
 use Rattle.packed.proofs.ParseLaws.{none_set, all_zero}
 use Rattle.codec.proofs.ReaderLaws.{left_taken}
 use Rattle.packed.proofs.RoundTrip.{unpack_gives}
@@ -171,6 +172,15 @@ module _ {bytes : List ℕ} {n i : ℕ} {row : List Cell} {place last : Cursor} 
   -- they are the first of the row
   pub first_read : take n row ≡ so.cells
   first_read = rw so.stored (take_at so.cells (blanks (cell_count - length so.cells)) n (omega (arith, so.long)))
+
+-- ---- a refusal
+
+-- what an answer that refuses stands for: a blank row, and no bytes
+pub blank_answer : (n : ℕ) (bytes : List ℕ) (answer : Answer UnpackedRow Refusal)
+    → map_given (λ (it : UnpackedRow). (take n (cells_of it.row), it.bytes)) (by_number answer) ≡ unpacked n bytes
+    → IfErr answer (λ refusal. held (unpacked n bytes) ≡ (blanks cell_count, 0))
+blank_answer n bytes (Ok it) h = tt
+blank_answer n bytes (Err refusal) h = ap held (sym h) ∙ refusal_blank (refusal_number refusal) (refusal_cell refusal)
 
 -- ---- a whole row
 

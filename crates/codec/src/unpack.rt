@@ -1,5 +1,5 @@
 // Unpack a row: from lent bytes, or a refusal.
-ghost use Rattle.std.specs.Prelude.{◌≡◌, ◌≤◌, IfOk, take};
+ghost use Rattle.std.specs.Prelude.{◌≡◌, ◌≤◌, IfOk, IfErr, take};
 ghost use Rattle.cells.specs.Row.{cell_count, cells_of, blanks};
 ghost use Rattle.cells.specs.Refusal.{by_number, map_given, value_or};
 ghost use Rattle.packed.specs.Packing.{packed};
@@ -16,12 +16,25 @@ pub struct UnpackedRow {
     pub bytes: usize,
 }
 
+// What stands where no row was unpacked, as `unwrap_or_default` gives it: a blank row, and no bytes.
+impl Default for UnpackedRow {
+    ghost is_default = { λ it. (cells_of it.row ≡ blanks cell_count) × (it.bytes ≡ 0) };
+
+    fn default() -> Self {
+        UnpackedRow {
+            row: blank_row(),
+            bytes: 0,
+        }
+    }
+}
+
 // Unpacks n cells into the first cells of a row. n is no length of what is lent: the row is made here. `as`: a place is below 22,
 // and `TryFrom` would bring an error that cannot be.
 pub fn unpack_cells(bytes: &[u8], n: usize) -> Result<UnpackedRow, Refusal>
     requires { n ≤ cell_count }
     ensures result { map_given (λ it. (take n (cells_of it.row), it.bytes)) (by_number result) ≡ unpacked n bytes.now }
     ensures whole { IfOk result (λ it. (cells_of it.row, it.bytes) ≡ held (unpacked n bytes.now)) }
+    ensures blank { IfErr result (λ _. held (unpacked n bytes.now) ≡ (blanks cell_count, 0)) }
 {
     let mut row = blank_row();
     let mut cursor = Cursor::start();
@@ -46,6 +59,7 @@ pub fn unpack_cells(bytes: &[u8], n: usize) -> Result<UnpackedRow, Refusal>
 pub fn unpack_row(bytes: &[u8]) -> Result<UnpackedRow, Refusal>
     ensures result { map_given (λ it. (cells_of it.row, it.bytes)) (by_number result) ≡ unpacked cell_count bytes.now }
     ensures whole { IfOk result (λ it. (cells_of it.row, it.bytes) ≡ value_or (blanks cell_count, 0) (unpacked cell_count bytes.now)) }
+    ensures blank { IfErr result (λ _. held (unpacked cell_count bytes.now) ≡ (blanks cell_count, 0)) }
     ensures back { IfOk result (λ it. packed (cells_of it.row) ≡ take it.bytes bytes.now) }
 {
     unpack_cells(bytes, CELLS)

@@ -1,10 +1,11 @@
 -- `unpack_cells` meets its contract: the loop reads one cell after another, and the padding decides at the end.
 -- Assumes nothing.
 use mathlib.Core.Path.{◌≡◌, sym, ap}
-use Rattle.std.specs.Prelude.{None, Some}
+use Rattle.std.specs.Prelude.{None, Some, Err}
 use Rattle.std.proofs.Common.{arith, rules, List, ◌-◌, ◌/◌}
 use Rattle.cells.specs.Row.{Cell}
-use Rattle.codec.proofs.UnpackLaws.{none_yet, read_more, cut_off, bad_padding, good_padding, first_read}
+use Rattle.cells.specs.declared.refusal.Refusal.TheVariants.{Padding}
+use Rattle.codec.proofs.UnpackLaws.{none_yet, read_more, cut_off, bad_padding, good_padding, first_read, blank_answer}
 use Rattle.codec.proofs.unpack.unpack_cells.Goals as goal
 
 pub loop-i-init : goal.loop-i-init
@@ -16,6 +17,9 @@ returns-in_err-row-clause-result c =
     let e = cut_off c.loop-i.invariant c.loop-i-test.true c.next_cell.new.self (rw none at c.next_cell.ensures) in
     rw e (search rules)
 
+pub returns-in_err-row-clause-blank : goal.returns-in_err-row-clause-blank
+returns-in_err-row-clause-blank c = blank_answer c.args.n c.args.bytes.now _ (returns-in_err-row-clause-result c)
+
 pub loop-i-preserved : goal.loop-i-preserved
 loop-i-preserved c =
     let some : c.next_cell.result ≡ Some c.in_ok-row.field-0 = grind arith in
@@ -23,6 +27,9 @@ loop-i-preserved c =
 
 pub returns-then-take-ne0-clause-result : goal.returns-then-take-ne0-clause-result
 returns-then-take-ne0-clause-result c = sym (bad_padding c.loop-i.invariant (omega arith) c.take.ensures c.if-take-ne0.true)
+
+pub returns-then-take-ne0-clause-blank : goal.returns-then-take-ne0-clause-blank
+returns-then-take-ne0-clause-blank c = blank_answer c.args.n c.args.bytes.now (Err Padding) (returns-then-take-ne0-clause-result c)
 
 pub returns-clause-result : goal.returns-clause-result
 returns-clause-result c =
