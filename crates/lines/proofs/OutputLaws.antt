@@ -6,7 +6,7 @@ use mathlib.Core.List.{List, [], ◌∷◌}
 use native.Mathlib.Nat.{le_refl}
 use native.Mathlib.Omega.{arith}
 use lib.Dec.{lit≤}
-use lib.ListN.{length, drop, length-drop}
+use lib.ListN.{length, drop, replicate, length-append, length-drop}
 use Rattle.cells.specs.Refusal.{Result, gives, refuses}
 use Rattle.cells.specs.Row.{cell_count, Cell}
 use Rattle.packed.specs.Unpacking.{unpacked}
@@ -14,6 +14,7 @@ use Rattle.packed.proofs.RoundTrip.{unpack_gives}
 use Rattle.packed.proofs.Sizes.{size_of_row, unpack_moves}
 use Rattle.lines.specs.Line.{taken_of, line_for, taken}
 use Rattle.lines.specs.Output.{lines_from}
+use Rattle.lines.specs.Text.{line_room, line_of}
 
 -- ---- the bytes that a row takes
 
@@ -71,3 +72,9 @@ lines_same (suc rows) (suc turns) number (byte ∷ bytes) h k =
 -- as many turns as there are bytes are enough
 pub lines_enough : (rows number : ℕ) (left : List ℕ) → length left ≤ rows → lines_from rows number left ≡ lines_from (length left) number left
 lines_enough rows number left h = lines_same rows (length left) number left h (le_refl (length left))
+
+-- a text that a line's array holds with its zeros is no longer than the array
+pub line_short : (text : List ℕ) → length (line_of text).text ≡ line_room → length text ≤ line_room
+line_short text e =
+    let zeros : List ℕ = replicate (line_room - length text) 0 in
+    omega (arith, length-append text zeros)

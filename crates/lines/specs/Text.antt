@@ -1,7 +1,7 @@
 -- Text as bytes, and a line that holds it.
 -- Assumes nothing.
-use Rattle.std.specs.Prelude.{ℕ, zero, suc, ◌+◌, ◌/◌, ◌%◌, cond, List, [], ◌∷◌, ◌++◌, ltb}
-use Rattle.arrayvec.specs.ArrayVec.{ArrayVec}
+use Rattle.std.specs.Prelude.{ℕ, zero, suc, ◌+◌, ◌-◌, ◌/◌, ◌%◌, cond, List, [], ◌∷◌, ◌++◌, ltb, length, take, replicate}
+use Rattle.lines.specs.declared.text.Line.{Line}
 
 -- the ASCII code of a decimal digit
 abbrev pub digit : ℕ → ℕ
@@ -38,14 +38,10 @@ newline = 10 ∷ []
 abbrev pub line_room : ℕ
 line_room = 64
 
--- a line, as contracts see it
-abbrev pub Line : Type 0
-Line = ArrayVec ℕ
-
--- the line that holds a text: its bytes, and nothing after them
+-- the line that holds a text: its bytes, zeros after them, and its length
 abbrev pub line_of : List ℕ → Line
-line_of text = record { items = text }
+line_of text = record { text = text ++ replicate (line_room - length text) 0; len = length text }
 
 -- the text of a line
 abbrev pub text_of : Line → List ℕ
-text_of line = line.items
+text_of line = take line.len line.text

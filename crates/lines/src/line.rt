@@ -2,7 +2,7 @@
 use crate::text::Line;
 
 // A row's line, and where the next row starts.
-#[derive(Clone, Drop)]
+#[derive(Clone, Copy)]
 pub struct Step {
     pub line: Line,
     pub next: usize,

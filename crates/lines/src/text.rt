@@ -1,8 +1,11 @@
-// A line of text.
-use arrayvec::ArrayVec;
+// A line of text by value.
 
 // The bytes that a line has room for.
 pub const LINE: usize = 64;
 
-// The bytes of a text: they lie in the line itself, which allocates nothing.
-pub type Line = ArrayVec<u8, LINE>;
+// The bytes of a text, zeros after them, and its length.
+#[derive(Clone, Copy)]
+pub struct Line {
+    pub text: [u8; LINE],
+    pub len: usize,
+}

@@ -13,8 +13,9 @@ use Rattle.member.specs.Verdict.{check_row}
 use Rattle.packed.specs.Unpacking.{unpacked}
 use Rattle.packed.proofs.Sizes.{no_bytes}
 use Rattle.lines.specs.Line.{row_line, checked_row, taken_of, line_for, taken, step_at}
-use Rattle.lines.specs.Text.{Line, line_of}
+use Rattle.lines.specs.Text.{line_of}
 use Rattle.lines.specs.declared.line.Step.{Step}
+use Rattle.lines.specs.declared.text.Line.{Line}
 
 -- the line of bytes that are there
 line_for_lem : (number : ℕ) (left : List ℕ) → 0 < length left → line_for number left ≡ row_line number (checked_row (unpacked cell_count left))

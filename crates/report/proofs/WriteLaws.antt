@@ -1,7 +1,7 @@
 -- What is written while the rows of an input are gone through: the lines of the rows passed, and room for those to come.
 -- Assumes nothing.
 use Prim.Native.Nat.{ℕ, suc, ◌+◌, ◌*◌, ◌≤◌, ◌<◌}
-use mathlib.Core.Path.{◌≡◌, refl, sym, ap, ap₂, ◌∙◌}
+use mathlib.Core.Path.{◌≡◌, refl, sym, ap, ap₂, ◌∙◌, subst}
 use mathlib.Core.List.{List, [], ◌++◌, append_assoc, append-nil}
 use native.Mathlib.Numerals.{add-one}
 use native.Mathlib.Omega.{arith}
@@ -10,10 +10,11 @@ use lib.Seq.{length-take-le, take_at, drop-drop, drop-append-add}
 use Rattle.io.specs.Counts.{IsPrefixLen}
 use Rattle.lines.specs.Line.{line_for, taken, step_at}
 use Rattle.lines.specs.Output.{lines_from, lines_of, joined, room_for}
-use Rattle.lines.specs.Text.{line_room, text_of}
+use Rattle.lines.specs.Text.{line_room, line_of, text_of}
 use Rattle.lines.specs.declared.line.Step.{Step}
-use Rattle.lines.proofs.OutputLaws.{taken_most, taken_some, taken_three}
+use Rattle.lines.proofs.OutputLaws.{taken_most, taken_some, taken_three, line_short}
 use Rattle.lines.proofs.OutputMeaning.{lines_step}
+use Rattle.text.proofs.TextLaws.{text_of_lem}
 
 -- the lines for the bytes from a position on, one after another
 abbrev to_come : List ℕ → ℕ → ℕ → List ℕ
@@ -98,26 +99,34 @@ module _ (input before : List ℕ) {at number len : ℕ} {out : List ℕ} (w : W
         paid = λ on. omega (arith, taken_three left (omega arith), w.paid more);
       }
 
--- a turn of the loop: the text of the step at the position, and the next position
-pub record Turn (input before : List ℕ) (at number len : ℕ) (out text : List ℕ) (next : ℕ) : Type 0 where
+-- a turn of the loop: the step at the position
+pub record Turn (input before : List ℕ) (at number len : ℕ) (out : List ℕ) (step : Step) : Type 0 where
+  -- its text is within its array, and as long as the line says
+  pub held : step.line.len ≤ length step.line.text
+  pub long : length (text_of step.line) ≡ step.line.len
   -- there is room for the text
-  pub room : len + length text ≤ length out
+  pub room : len + step.line.len ≤ length out
   -- the position goes on
-  pub on : at < next
+  pub on : at < step.next
   -- and the text is written
-  pub written : Written input before next (number + 1) (len + length text) (take len out ++ text ++ drop (len + length text) out)
+  pub written : Written input before step.next (number + 1) (len + step.line.len)
+      (take len out ++ text_of step.line ++ drop (len + length (text_of step.line)) out)
 
 -- every turn is so where the buffer has room for the lines of an input
-pub turn : (input before : List ℕ) {at number len : ℕ} {out text : List ℕ} {step : Step} → Written input before at number len out → at < length input
-    → room_for (length input) ≤ length before → step ≡ step_at input at number → text ≡ text_of step.line → length text ≤ line_room
-    → Turn input before at number len out text step.next
-turn input before {at} {number} {len} {out} {text} {step} w more room e holds short =
-    let is : text ≡ line_for number (drop at input) = holds ∙ ap (λ (s : Step). text_of s.line) e in
-    let to : step.next ≡ at + taken (drop at input) = ap (λ (s : Step). s.next) e in
-    let next = written_more input before w more room (rw is at short) in
-    rw (is, to)
+pub turn : (input before : List ℕ) {at number len : ℕ} {out : List ℕ} {step : Step} → Written input before at number len out → at < length input
+    → room_for (length input) ≤ length before → step ≡ step_at input at number → length step.line.text ≡ line_room
+    → Turn input before at number len out step
+turn input before {at} {number} {len} {out} w more room e whole =
+    let line : List ℕ = line_for number (drop at input) in
+    let array : length (line_of line).text ≡ line_room = ap (λ (s : Step). length s.line.text) (sym e) ∙ whole in
+    let short = line_short line array in
+    let next = written_more input before w more room short in
+    let text = text_of_lem line in
+    subst (Turn input before at number len out) (sym e)
     (record {
+      held = omega arith;
+      long = ap length text;
       room = omega (arith, same_size input before w, next.within);
       on = omega (arith, taken_some (drop at input) (omega (arith, length-drop at input)));
-      written = next;
+      written = rw text next;
     })

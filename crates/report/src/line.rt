@@ -13,7 +13,7 @@ use lines::line::Step;
 use lines::text::Line;
 use member::verdict::Verdict;
 use rowcheck::check::check_row;
-use text::text::{Field, empty, put_field};
+use text::text::{Field, empty, put_byte, put_field};
 
 // The line of row `number`: a word, and numbers after it.
 fn fields_line(number: u64, word: &str, numbers: &[u32]) -> Line
@@ -27,7 +27,7 @@ fn fields_line(number: u64, word: &str, numbers: &[u32]) -> Line
     for n in numbers {
         put_field(&mut line, *n);
     }
-    line.push(b'\n');
+    put_byte(&mut line, b'\n');
     line
 }
 

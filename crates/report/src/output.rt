@@ -37,9 +37,9 @@ pub fn write_lines(input: &[u8], out: &mut [u8]) -> usize
     let mut len: usize = 0;
     while at < input.len() {
         let step = line_at(input, at, number);
-        let text = step.line.as_slice();
-        put_line(text, out, len);
-        len += text.len();
+        let line = step.line;
+        put_line(&line.text[..line.len], out, len);
+        len += line.len;
         at = step.next;
         number += 1;
     }

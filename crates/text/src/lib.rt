@@ -1,4 +1,4 @@
-// A line of text, put together by value.
+// A line of text, put together field after field.
 #![tactic(auto)]
 
 pub mod text;

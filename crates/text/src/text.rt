@@ -1,17 +1,28 @@
 // A line of text, put together field after field.
-ghost use Rattle.std.specs.Prelude.{◌≡◌, ℕ, List, [], ◌++◌, length};
+ghost use Rattle.std.specs.Prelude.{◌≡◌, ℕ, List, [], ◌∷◌, ◌++◌, length};
 ghost use Rattle.lines.specs.Text.{decimal, field, line_of, text_of};
 ghost use Rattle.text.specs.Room.{HasRoom};
 
-use arrayvec::ArrayVec;
 use itoa::Buffer;
-use lines::text::Line;
+use lines::text::{LINE, Line};
 
-// The library's `new`, with a contract in the terms of a line.
 pub fn empty() -> Line
     ensures { result ≡ line_of [] }
 {
-    ArrayVec::new()
+    Line {
+        text: [0; LINE],
+        len: 0,
+    }
+}
+
+// A byte after the line's text.
+pub fn put_byte(line: &mut Line, byte: u8)
+    requires { HasRoom line.old 1 }
+    ensures { line.new ≡ line_of (text_of line.old ++ (byte ∷ [])) }
+{
+    let at = line.len;
+    line.text[at] = byte;
+    line.len = at + 1;
 }
 
 // What a field of a line can hold: bytes, a word or a number.
@@ -30,7 +41,10 @@ impl Field for &[u8] {
     ghost text = { λ word. word.now };
 
     fn put(self, line: &mut Line) {
-        let _ = line.try_extend_from_slice(self);
+        let at = line.len;
+        let end = at + self.len();
+        line.text[at..end].copy_from_slice(self);
+        line.len = end;
     }
 }
 
@@ -65,6 +79,6 @@ pub fn put_field<T: Field>(line: &mut Line, value: T)
     requires { HasRoom line.old (length (field (T.text value))) }
     ensures { line.new ≡ line_of (text_of line.old ++ field (T.text value)) }
 {
-    line.push(b' ');
+    put_byte(line, b' ');
     value.put(line);
 }

@@ -10,7 +10,7 @@ use Rattle.cells.specs.declared.refusal.Refusal.{Refusal}
 use Rattle.codec.specs.declared.unpack.UnpackedRow.{UnpackedRow}
 use Rattle.packed.specs.Unpacking.{unpacked}
 use Rattle.packed.proofs.Sizes.{unpack_moves}
-use Rattle.lines.specs.Text.{Line}
+use Rattle.lines.specs.declared.text.Line.{Line}
 use Rattle.report.proofs.StepLaws.{step_past, rest_of, step_refused, step_checked}
 use Rattle.report.proofs.line.line_at.Goals as goal
 

@@ -4,32 +4,30 @@ use Rattle.std.proofs.Common.{arith, ◌≡◌, ◌≤◌, ◌<◌, ℕ, List, l
 use Rattle.std.proofs.Math.ListN.{length-take}
 use Rattle.lines.specs.Line.{step_at}
 use Rattle.lines.specs.Output.{most_input, room_for}
-use Rattle.lines.specs.Text.{line_room, text_of}
+use Rattle.lines.specs.Text.{line_room}
 use Rattle.lines.specs.declared.line.Step.{Step}
 use Rattle.report.proofs.WriteLaws.{Written, Turn, written_all, turn}
 use Rattle.report.proofs.output.write_lines.Goals as goal
 
 -- a turn over what is taken in of an input
-turn_of : (whole : List ℕ) {input before : List ℕ} {at number len : ℕ} {out text : List ℕ} {step : Step} → input ≡ take most_input whole
+turn_of : (whole : List ℕ) {input before : List ℕ} {at number len : ℕ} {out : List ℕ} {step : Step} → input ≡ take most_input whole
     → room_for (min most_input (length whole)) ≤ length before → Written input before at number len out → at < length input
-    → step ≡ step_at input at number → text ≡ text_of step.line → length text ≤ line_room → Turn input before at number len out text step.next
-turn_of whole {input} {before} taken room w more e holds short = turn input before w more (rw (taken, length-take) room) e holds short
+    → step ≡ step_at input at number → length step.line.text ≡ line_room → Turn input before at number len out step
+turn_of whole {input} {before} taken room w more e array = turn input before w more (rw (taken, length-take) room) e array
 
 pub put_line-requires : goal.put_line-requires
 put_line-requires c =
-    let text = c.as_slice-text.ensures in
-    (turn_of c.args.input.now c.taken_in-input.ensures c.requires c.loop-at.invariant c.loop-at-test.true c.line_at-step.ensures text.value text.fits).room
+    let t = turn_of c.args.input.now c.taken_in-input.ensures c.requires c.loop-at.invariant c.loop-at-test.true c.line_at-step.ensures (omega arith) in
+    omega (arith, t.room, t.long)
 
 pub loop-at-smaller : goal.loop-at-smaller
 loop-at-smaller c =
-    let text = c.as_slice-text.ensures in
-    let t = turn_of c.args.input.now c.taken_in-input.ensures c.requires c.loop-at.invariant c.loop-at-test.true c.line_at-step.ensures text.value text.fits in
+    let t = turn_of c.args.input.now c.taken_in-input.ensures c.requires c.loop-at.invariant c.loop-at-test.true c.line_at-step.ensures (omega arith) in
     omega (arith, t.on)
 
 pub loop-at-preserved : goal.loop-at-preserved
 loop-at-preserved c =
-    let text = c.as_slice-text.ensures in
-    let t = turn_of c.args.input.now c.taken_in-input.ensures c.requires c.loop-at.invariant c.loop-at-test.true c.line_at-step.ensures text.value text.fits in
+    let t = turn_of c.args.input.now c.taken_in-input.ensures c.requires c.loop-at.invariant c.loop-at-test.true c.line_at-step.ensures (omega arith) in
     rw c.put_line.ensures t.written
 
 pub returns-clause-count : goal.returns-clause-count
