@@ -15,7 +15,7 @@ abbrev pub search_from : (ℕ → Cell → Bool) → List Cell → ℕ → ℕ
 search_from test cells i = lowest test (i + 1) (drop i cells)
 
 -- the same of those from one place up to another, none where there is none
-abbrev pub search_between : (ℕ → Cell → Bool) → List Cell → ℕ → ℕ → Option ℕ
+unfoldable pub search_between : (ℕ → Cell → Bool) → List Cell → ℕ → ℕ → Option ℕ
 search_between test cells from to = cell_found (search_from test (take to cells) from)
 
 -- a closure answers of every numbered cell what a test says of it

@@ -4,6 +4,7 @@ ghost use Rattle.std.specs.Prelude.{◌≡◌, ◌≤◌, ℕ, Bool};
 ghost use Rattle.cells.specs.Row.{cell_count, cells_of, Cell};
 ghost use Rattle.member.specs.Acceptance.{misfilled, unknown_code, out_of_range, lowest_cell, is_begun};
 ghost use Rattle.acceptance.specs.Search.{cell_found, search_between, Tests};
+ghost use Rattle.std.specs.Option.{option_or};
 
 use cellrules::rules::NumberedCell;
 use cells::row::{CELLS, Row};
@@ -28,6 +29,21 @@ fn lowest_in<F: Fn(NumberedCell) -> bool>(row: Row, part: Range<usize>, test: F)
         }
     }
     None
+}
+
+// The same of one part after others: what they found, or what this one has. A function of its own, so that its contract says where the parts are cut.
+#[inline(always)]
+fn next_in<F: Fn(NumberedCell) -> bool>(
+    found: Option<u32>,
+    row: Row,
+    part: Range<usize>,
+    test: F,
+) -> Option<u32>
+    requires inside { part.end ≤ cell_count }
+    requires callable { F.IsAlwaysCallable test }
+    ensures { (rule : ℕ → Cell → Bool) → Tests F.Fn test rule → result ≡ option_or found (search_between rule (cells_of row) part.start part.end) }
+{
+    found.or_else(|| lowest_in(row, part, test))
 }
 
 // Whether a row has begun a joint.
@@ -63,7 +79,7 @@ pub fn lowest_outside(row: Row) -> Option<u32>
     ensures { result ≡ cell_found (lowest_cell out_of_range (cells_of row)) }
 {
     let test = |cell: NumberedCell| cell.is_outside();
-    lowest_in(row, 0..7, test)
-        .or_else(|| lowest_in(row, 7..13, test))
-        .or_else(|| lowest_in(row, 13..CELLS, test))
+    let first = lowest_in(row, 0..7, test);
+    let second = next_in(first, row, 7..13, test);
+    next_in(second, row, 13..CELLS, test)
 }

@@ -9,7 +9,11 @@ use Rattle.acceptance.proofs.searches.lowest_misfilled.Goals as goal
 pub returns : goal.returns
 returns c =
     let test = misfilled c.args.kind c.args.begun in
-    next_part test c.args.row.cells (search rules) 0 13 cell_count _ _ (omega arith) (omega arith) (omega arith)
+    let cells = c.args.row.cells in
+    next_part test cells (search rules) {from = 0} {mid = 13} {to = cell_count}
     (c.lowest_in.ensures test (λ n cell answer e. search rules))
     (or_later c.lowest_in.result _ c.or_else.result (λ later. search rules) c.or_else.ensures)
-    ∙ whole_row test c.args.row.cells (search rules)
+    (omega arith)
+    (omega arith)
+    (omega arith)
+    ∙ whole_row test cells (search rules)
