@@ -2,7 +2,7 @@
 -- Assumes nothing.
 use Prim.Native.Nat.{ℕ, ◌+◌, ◌*◌}
 use mathlib.Core.Bool.{Bool, true, false, cond}
-use mathlib.Core.List.{List}
+use mathlib.Core.List.{List, [], ◌∷◌}
 use mathlib.Core.Path.{◌≡◌, refl}
 use borrow.Author.Tests.{eq-eqb, ne_eqb}
 use lib.ListN.{length}
@@ -12,6 +12,8 @@ use Rattle.cells.specs.Refusal.{gives, refuses, refused_by, refusal_code, leaves
 use Rattle.cells.specs.declared.refusal.Refusal.{Refusal}
 use Rattle.worksheet.specs.HostAnswer.{floats_result, floats_buffer, whole_floats}
 use Rattle.worksheet.specs.Number.{Reading}
+use Rattle.worksheet.specs.declared.host_cell.HostCell.{HostCell}
+use Rattle.worksheet.specs.declared.host_cell.HostCell.TheVariants.{Blank as Empty}
 use Rattle.worksheet.specs.Reading.{read_cell, is_unreadable, cell_read, lowest_unreadable}
 use Rattle.floorrules.specs.FloorBeam.{accept_loading, floor_beam}
 use Rattle.floorrules.specs.HostBeam.{beam_cell_at, loading_of, host_loading, host_cells_of_row, host_beam_cells, beam_numbers, beam_bytes, beam_answered, host_floor_beam, beam_pass_or_fail, beam_returns, beam_leaves}
@@ -36,16 +38,17 @@ loading_inside l e = rw e
 
 -- ---- the five cells
 
+-- the last of the five decides where the others are readable
+pub none_before_last : (grade moisture office width height : HostCell) {t : Bool} → is_unreadable (read_cell grade) ≡ false → is_unreadable (read_cell moisture) ≡ false
+    → is_unreadable (read_cell office) ≡ false → is_unreadable (read_cell width) ≡ false → is_unreadable (read_cell height) ≡ t
+    → lowest_unreadable (Empty ∷ grade ∷ Empty ∷ moisture ∷ office ∷ width ∷ height ∷ []) ≡ cond t 7 0
+unfolding lowest
+none_before_last grade moisture office width height e f g h i = rw (e, f, g, h, i)
+
 -- what the five readings come to
 module _ (beam : List ℕ) where
   abbrev reading : ℕ → Reading
   reading place = read_cell (beam_cell_at beam place)
-
-  -- the last of the five decides where the others are readable
-  pub none_before_last : {t : Bool} → is_unreadable (reading 3) ≡ false → is_unreadable (reading 4) ≡ false → is_unreadable (reading 5) ≡ false
-      → is_unreadable (reading 6) ≡ false → is_unreadable (reading 7) ≡ t → lowest_unreadable (host_cells_of_row beam) ≡ cond t 7 0
-  unfolding lowest
-  none_before_last e f g h i = rw (e, f, g, h, i)
 
   -- where each is readable they are the cells of the beam, and otherwise the lowest is refused
   pub five_cells : lowest_unreadable (host_cells_of_row beam) ≡ 0

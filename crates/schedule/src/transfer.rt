@@ -15,7 +15,8 @@ pub struct BrokenOff {
     pub after: usize,
 }
 
-// Calls of a stream over bytes that it is lent. A trait and no closure: no clause says how many bytes a closure was lent, nor where they begin.
+// Calls of a stream over bytes that it is lent. A trait and no closure: no clause of a closure ties what it counts to the
+// bytes that are left.
 trait Calls {
     // how many bytes it is lent
     ghost lent: { Self → ℕ };
