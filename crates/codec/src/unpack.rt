@@ -16,7 +16,7 @@ pub struct UnpackedRow {
     pub bytes: usize,
 }
 
-// What stands where no row was unpacked, as `unwrap_or_default` gives it: a blank row, and no bytes.
+// What unpacking begins with, and what stands where it is refused, as `unwrap_or_default` gives it: a blank row, and no bytes.
 impl Default for UnpackedRow {
     ghost is_default = { λ it. (cells_of it.row ≡ blanks cell_count) × (it.bytes ≡ 0) };
 
@@ -36,11 +36,11 @@ pub fn unpack_cells(bytes: &[u8], n: usize) -> Result<UnpackedRow, Refusal>
     ensures whole { IfOk result (λ it. (cells_of it.row, it.bytes) ≡ held (unpacked n bytes.now)) }
     ensures blank { IfErr result (λ _. held (unpacked n bytes.now) ≡ (blanks cell_count, 0)) }
 {
-    let mut row = blank_row();
+    let mut unpacked = UnpackedRow::default();
     let mut cursor = Cursor::start();
     // by number: of a row after a loop over part of it by `iter_mut`, a proof knows nothing
     for i in 0..n {
-        row.cells[i] = cursor
+        unpacked.row.cells[i] = cursor
             .next_cell(bytes)
             .ok_or(Refusal::CutOff((i + 1) as u32))?;
     }
@@ -49,10 +49,8 @@ pub fn unpack_cells(bytes: &[u8], n: usize) -> Result<UnpackedRow, Refusal>
     if cursor.take(padding) != 0 {
         return Err(Refusal::Padding);
     }
-    Ok(UnpackedRow {
-        row,
-        bytes: cursor.at - cursor.count / 8,
-    })
+    unpacked.bytes = cursor.at - cursor.count / 8;
+    Ok(unpacked)
 }
 
 // Unpack a row: the 22 cells of `unpack_cells`, with a promise of its own. Packing what was unpacked gives the bytes that were read, whatever slice was lent.

@@ -9,20 +9,20 @@ use Rattle.codec.proofs.UnpackLaws.{none_yet, read_more, cut_off, bad_padding, g
 use Rattle.codec.proofs.unpack.unpack_cells.Goals as goal
 
 pub loop-i-init : goal.loop-i-init
-loop-i-init c = rw c.blank_row-row.ensures (none_yet _ _ _ c.start-cursor.ensures.0 c.start-cursor.ensures.1)
+loop-i-init c = rw c.default-unpacked.ensures.0 (none_yet _ _ _ c.start-cursor.ensures.0 c.start-cursor.ensures.1)
 
-pub returns-in_err-row-clause-result : goal.returns-in_err-row-clause-result
-returns-in_err-row-clause-result c =
+pub returns-in_err-unpacked-clause-result : goal.returns-in_err-unpacked-clause-result
+returns-in_err-unpacked-clause-result c =
     let none : c.next_cell.result ≡ None = grind arith in
     let e = cut_off c.loop-i.invariant c.loop-i-test.true c.next_cell.new.self (rw none at c.next_cell.ensures) in
     rw e (search rules)
 
-pub returns-in_err-row-clause-blank : goal.returns-in_err-row-clause-blank
-returns-in_err-row-clause-blank c = blank_answer c.args.n c.args.bytes.now _ (returns-in_err-row-clause-result c)
+pub returns-in_err-unpacked-clause-blank : goal.returns-in_err-unpacked-clause-blank
+returns-in_err-unpacked-clause-blank c = blank_answer c.args.n c.args.bytes.now _ (returns-in_err-unpacked-clause-result c)
 
 pub loop-i-preserved : goal.loop-i-preserved
 loop-i-preserved c =
-    let some : c.next_cell.result ≡ Some c.in_ok-row.field-0 = grind arith in
+    let some : c.next_cell.result ≡ Some c.in_ok-unpacked.field-0 = grind arith in
     read_more c.loop-i.invariant c.loop-i-test.true c.requires _ _ (rw some at c.next_cell.ensures)
 
 pub returns-then-take-ne0-clause-result : goal.returns-then-take-ne0-clause-result

@@ -4,4 +4,4 @@ use Rattle.codec.proofs.UnpackLaws.{ReadSoFar}
 use Rattle.codec.proofs.unpack.unpack_cells.Given as goal
 
 abbrev pub invariant-loop-i : goal.invariant-loop-i
-invariant-loop-i l = ReadSoFar l.bytes l.n l.i l.row.cells l.cursor
+invariant-loop-i l = ReadSoFar l.bytes l.n l.i l.unpacked.row.cells l.cursor
