@@ -20,7 +20,6 @@ use Rattle.codec.specs.Place.{on_hand, Taken, left, Reached, Reads}
 use Rattle.codec.specs.declared.cursor.Cursor.{Cursor}
 use Rattle.codec.specs.declared.unpack.UnpackedRow.{UnpackedRow}
 use Rattle.packed.proofs.BitLaws.{bits_zero, length_bits, length-bits_of, number_bits, number_zeros, number_nil}
-use Rattle.packed.proofs.PackMeaning.{refusal_blank}
 use Rattle.packed.proofs.ParseLaws.{none_set, all_zero}
 use Rattle.codec.proofs.ReaderLaws.{left_taken}
 use Rattle.packed.proofs.RoundTrip.{unpack_gives}
@@ -175,12 +174,13 @@ module _ {bytes : List ℕ} {n i : ℕ} {row : List Cell} {place last : Cursor} 
 
 -- ---- a refusal
 
--- what an answer that refuses stands for: a blank row, and no bytes
-pub blank_answer : (n : ℕ) (bytes : List ℕ) (answer : Answer UnpackedRow Refusal)
+-- what the code's default is, of any refusal: what an answer that refuses holds
+pub default_held : (n : ℕ) (bytes : List ℕ) (answer : Answer UnpackedRow Refusal) (d : UnpackedRow)
+    → ((number cell : ℕ) → ◌≡◌ {A = List Cell × ℕ} (cells_of d.row, d.bytes) (held (refuses number cell)))
     → map_given (λ (it : UnpackedRow). (take n (cells_of it.row), it.bytes)) (by_number answer) ≡ unpacked n bytes
-    → IfErr answer (λ refusal. held (unpacked n bytes) ≡ (blanks cell_count, 0))
-blank_answer n bytes (Ok it) h = tt
-blank_answer n bytes (Err refusal) h = ap held (sym h) ∙ refusal_blank (refusal_number refusal) (refusal_cell refusal)
+    → IfErr answer (λ refusal. (cells_of d.row, d.bytes) ≡ held (unpacked n bytes))
+default_held n bytes (Ok it) d is h = tt
+default_held n bytes (Err refusal) d is h = is (refusal_number refusal) (refusal_cell refusal) ∙ ap held h
 
 -- ---- a whole row
 

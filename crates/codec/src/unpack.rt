@@ -1,7 +1,7 @@
 // Unpack a row: from lent bytes, or a refusal.
-ghost use Rattle.std.specs.Prelude.{◌≡◌, ◌≤◌, IfOk, IfErr, take};
-ghost use Rattle.cells.specs.Row.{cell_count, cells_of, blanks};
-ghost use Rattle.cells.specs.Refusal.{by_number, map_given, value_or};
+ghost use Rattle.std.specs.Prelude.{◌≡◌, ◌≤◌, ℕ, List, IfOk, take};
+ghost use Rattle.cells.specs.Row.{cell_count, cells_of, blanks, Cell};
+ghost use Rattle.cells.specs.Refusal.{by_number, map_given, refuses, value_or};
 ghost use Rattle.packed.specs.Packing.{packed};
 ghost use Rattle.packed.specs.Unpacking.{unpacked, held};
 
@@ -18,7 +18,7 @@ pub struct UnpackedRow {
 
 // What unpacking begins with, and what stands where it is refused, as `unwrap_or_default` gives it: a blank row, and no bytes.
 impl Default for UnpackedRow {
-    ghost is_default = { λ it. (cells_of it.row ≡ blanks cell_count) × (it.bytes ≡ 0) };
+    ghost is_default = { λ it. (number cell : ℕ) → ◌≡◌ {A = List Cell × ℕ} (cells_of it.row, it.bytes) (held (refuses number cell)) };
 
     fn default() -> Self {
         UnpackedRow {
@@ -34,7 +34,6 @@ pub fn unpack_cells(bytes: &[u8], n: usize) -> Result<UnpackedRow, Refusal>
     requires { n ≤ cell_count }
     ensures result { map_given (λ it. (take n (cells_of it.row), it.bytes)) (by_number result) ≡ unpacked n bytes.now }
     ensures whole { IfOk result (λ it. (cells_of it.row, it.bytes) ≡ held (unpacked n bytes.now)) }
-    ensures blank { IfErr result (λ _. held (unpacked n bytes.now) ≡ (blanks cell_count, 0)) }
 {
     let mut unpacked = UnpackedRow::default();
     let mut cursor = Cursor::start();
@@ -57,7 +56,6 @@ pub fn unpack_cells(bytes: &[u8], n: usize) -> Result<UnpackedRow, Refusal>
 pub fn unpack_row(bytes: &[u8]) -> Result<UnpackedRow, Refusal>
     ensures result { map_given (λ it. (cells_of it.row, it.bytes)) (by_number result) ≡ unpacked cell_count bytes.now }
     ensures whole { IfOk result (λ it. (cells_of it.row, it.bytes) ≡ value_or (blanks cell_count, 0) (unpacked cell_count bytes.now)) }
-    ensures blank { IfErr result (λ _. held (unpacked cell_count bytes.now) ≡ (blanks cell_count, 0)) }
     ensures back { IfOk result (λ it. packed (cells_of it.row) ≡ take it.bytes bytes.now) }
 {
     unpack_cells(bytes, CELLS)

@@ -7,4 +7,4 @@ pub returns : goal.returns
 returns c =
     let u = c.unpack_cells.ensures in
     let e = whole_row c.args.bytes.now (λ i. (c.type_inv.bytes i).fits) c.unpack_cells.result u.result u.whole in
-    record { result = e.0; whole = e.1; blank = u.blank; back = e.2 }
+    record { result = e.0; whole = e.1; back = e.2 }
