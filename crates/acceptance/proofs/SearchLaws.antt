@@ -20,7 +20,7 @@ use Rattle.member.specs.Cells.{filled}
 use Rattle.member.specs.declared.kind.Kind.{Kind}
 use Rattle.acceptance.specs.Search.{cell_found, search_from, search_between}
 
--- The loop of every search: what it looks for, n, is what is left from place i on, where the code's test b of the cell has the outcome t.
+-- A place of a search: what is looked for, n, is what is left from place i on, where the code's test b of the cell has the outcome t. `search_step` says it of a part.
 pub turn : (test : ℕ → Cell → Bool) (row : Row) {n : ℕ} (i : ℕ) {b : Bool} (t : Bool) → i < length (cells_of row)
     → n ≡ search_from test (cells_of row) i
     → b ≡ test (i + 1) (get_or row.cells i None)
@@ -122,8 +122,11 @@ some_found n = by (eqb n 0)
     by false = refl
 
 -- only cells 2, 3 and 13 have codes
-no_code : (kind : Kind) (n : ℕ) (cell : Cell) → (n ≡ 2 → ⊥) → (n ≡ 3 → ⊥) → (n ≡ 13 → ⊥) → unknown_code kind n cell ≡ false
-no_code kind n cell a b c = rw (ne_eqb n 2 a, ne_eqb n 3 b, ne_eqb n 13 c) (and-false (filled cell))
+abbrev NoCode : ℕ → Type 0
+NoCode n = (n ≡ 2 → ⊥) × (n ≡ 3 → ⊥) × (n ≡ 13 → ⊥)
+
+no_code : (kind : Kind) (n : ℕ) (cell : Cell) → NoCode n → unknown_code kind n cell ≡ false
+no_code kind n cell other = rw (ne_eqb n 2 other.0, ne_eqb n 3 other.1, ne_eqb n 13 other.2) (and-false (filled cell))
 
 or_none : (o : Option ℕ) → option_or o None ≡ o
 or_none None = refl
@@ -134,10 +137,10 @@ module _ (kind : Kind) (cells : List Cell) (whole : length cells ≡ cell_count)
   abbrev codes_from : ℕ → ℕ
   codes_from = search_from (unknown_code kind) cells
 
-  over : (k i : ℕ) → i + k ≤ cell_count → ((j : ℕ) → i ≤ j → j < i + k → (j + 1 ≡ 2 → ⊥) × (j + 1 ≡ 3 → ⊥) × (j + 1 ≡ 13 → ⊥)) → codes_from i ≡ codes_from (i + k)
+  over : (k i : ℕ) → i + k ≤ cell_count → ((n : ℕ) → i < n → n ≤ i + k → NoCode n) → codes_from i ≡ codes_from (i + k)
   over k i inside other =
       passed (unknown_code kind) (row_of cells) k i (omega (arith, whole))
-      (λ j low high. let o = other j low high in no_code kind (j + 1) (get_or cells j None) o.0 o.1 o.2)
+      (λ j low high. no_code kind (j + 1) (get_or cells j None) (other (j + 1) (omega (arith, low)) (omega (arith, high))))
 
   at : (i : ℕ) (t : Bool) → i < cell_count → unknown_code kind (i + 1) (get_or cells i None) ≡ t → codes_from i ≡ cond t (i + 1) (codes_from (i + 1))
   at i t inside e = turn (unknown_code kind) (row_of cells) i t (omega (arith, whole)) refl refl e
@@ -148,9 +151,9 @@ module _ (kind : Kind) (cells : List Cell) (whole : length cells ≡ cell_count)
       → unknown_code kind 13 (get_or cells 12 None) ≡ t13
       → lowest_cell (unknown_code kind) cells ≡ cond t2 2 (cond t3 3 (cond t13 13 0))
   search_codes t2 t3 t13 e2 e3 e13 =
-      let first : codes_from 0 ≡ codes_from 1 = over 1 0 (omega arith) (λ j low high. (λ e. omega (arith, high, e), λ e. omega (arith, high, e), λ e. omega (arith, high, e))) in
-      let between : codes_from 3 ≡ codes_from 12 = over 9 3 (omega arith) (λ j low high. (λ e. omega (arith, low, e), λ e. omega (arith, low, e), λ e. omega (arith, high, e))) in
-      let last : codes_from 13 ≡ codes_from cell_count = over (cell_count - 13) 13 (omega arith) (λ j low high. (λ e. omega (arith, low, e), λ e. omega (arith, low, e), λ e. omega (arith, low, e))) in
+      let first : codes_from 0 ≡ codes_from 1 = over 1 0 (omega arith) (λ n low high. (λ e. omega arith, λ e. omega arith, λ e. omega arith)) in
+      let between : codes_from 3 ≡ codes_from 12 = over 9 3 (omega arith) (λ n low high. (λ e. omega arith, λ e. omega arith, λ e. omega arith)) in
+      let last : codes_from 13 ≡ codes_from cell_count = over (cell_count - 13) 13 (omega arith) (λ n low high. (λ e. omega arith, λ e. omega arith, λ e. omega arith)) in
       let none : codes_from cell_count ≡ 0 = lowest_end (unknown_code kind) cells cell_count (cell_count + 1) (omega (arith, whole)) in
       rw (first, at 1 t2 (omega arith) e2, at 2 t3 (omega arith) e3, between, at 12 t13 (omega arith) e13, last, none)
 
@@ -158,10 +161,10 @@ module _ (kind : Kind) (cells : List Cell) (whole : length cells ≡ cell_count)
   abbrev codes : ℕ → ℕ → Option ℕ
   codes = search_between (unknown_code kind) cells
 
-  without : (from to : ℕ) → from ≤ to → to ≤ cell_count → ((n : ℕ) → from < n → n ≤ to → (n ≡ 2 → ⊥) × (n ≡ 3 → ⊥) × (n ≡ 13 → ⊥)) → codes from to ≡ None
+  without : (from to : ℕ) → from ≤ to → to ≤ cell_count → ((n : ℕ) → from < n → n ≤ to → NoCode n) → codes from to ≡ None
   without from to low part other =
       none_in (unknown_code kind) cells whole from to low part
-      (λ j above below. let o = other (j + 1) (omega (arith, above)) (omega (arith, below)) in no_code kind (j + 1) (get_or cells j None) o.0 o.1 o.2)
+      (λ j above below. no_code kind (j + 1) (get_or cells j None) (other (j + 1) (omega (arith, above)) (omega (arith, below))))
 
   pub codes_in_parts : {a b c d : ℕ} {first result : Option ℕ} → first ≡ codes a b → result ≡ option_or first (codes c d)
       → a ≤ 1 → 3 ≤ b → b ≤ c → c ≤ 12 → 13 ≤ d → d ≤ cell_count → result ≡ cell_found (lowest_cell (unknown_code kind) cells)

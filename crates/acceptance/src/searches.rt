@@ -31,8 +31,8 @@ fn lowest_in<F: Fn(NumberedCell) -> bool>(row: Row, part: Range<usize>, test: F)
     None
 }
 
-// The same of one part after others: what they found, or what this one has. A function of its own, so that its contract says where the parts are cut. The two searches that cut a row
-// once go by `or_else` alone: through this one a check takes 2 to 4 percent more instructions.
+// The same of one part after others: what they found, or what this one has. A function of its own, so that its contract says where the parts are cut. The searches of two parts go by
+// `or_else` alone (decision 72).
 #[inline(always)]
 fn next_in<F: Fn(NumberedCell) -> bool>(
     found: Option<u32>,

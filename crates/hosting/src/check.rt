@@ -1,4 +1,6 @@
 // Checking for the host: its row of bytes read, checked, and the verdict put into the lent answer.
+// The three entries over a row share two lines, which read it. A function that takes the rest as a closure was written: its contract needs a record of seven fields on what the
+// closure is shown, gives and leaves, and each entry keeps a function with a contract of its own. That is no plainer.
 ghost use Rattle.std.specs.Prelude.{◌≡◌, ℕ, length};
 ghost use Rattle.cells.specs.Refusal.{by_number, told};
 ghost use Rattle.member.specs.Demand3.{demand_factor};
@@ -19,8 +21,6 @@ fn write_verdict(verdict: Verdict, answer: &mut [u8]) -> Result<u64, Refusal>
     Ok(u64::from(!verdict.passes))
 }
 
-// The three entries over a row share two lines, which read it. A function that takes the rest as a closure was written: its contract needs a record of seven fields on what the
-// closure is shown, gives and leaves, and each entry keeps a function with a contract of its own. That is no plainer.
 // Checks the host's row of bytes: 0 for pass, 1 for fail, the rest of the verdict in the answer's bytes; or the refusal.
 fn check_into(row: &[u8], answer: &mut [u8]) -> Result<u64, Refusal>
     ensures result { told (λ (n : ℕ). n) (by_number result) ≡ check_returns row.now (length answer.old) }

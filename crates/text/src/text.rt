@@ -30,8 +30,7 @@ pub trait Field {
     // its bytes
     ghost text: { Self → List ℕ };
 
-    // Puts it after the line's text. Not `write!`: what that ensures of a text of fixed room is for `Ok` alone, and no clause says that
-    // it is `Ok` where there is room. A line always has room, and what is proved of it is not that it may fail.
+    // Puts it after the line's text, where there is room: so it cannot fail, as `write!` may.
     fn put(self, line: &mut Line)
         requires { HasRoom line.old (length (text self)) }
         ensures { line.new ≡ line_of (text_of line.old ++ text self) };
